@@ -25,11 +25,23 @@ use std::sync::ledger::Ledger;
 use steps::Steps;
 
 // What the successors of a GetBulk are looked up in, and what gives memory for their names.
-#[derive(Clone, Copy)]
 struct Lookup<'a, S> {
     alloc: Global,
     source: &'a S,
 }
+
+// By hand, so that it is copied whatever the source is.
+impl<S> Clone for Lookup<'_, S> {
+    ghost is_clone = { λ x y. y ≡ x };
+
+    ghost is_infallible = { λ _. Unit {0} };
+
+    fn clone(&self) -> Result<Self, AllocError> {
+        Ok(*self)
+    }
+}
+
+impl<S> Copy for Lookup<'_, S> {}
 
 // Where a walk stands at a name, found beside the stand of the last binding that was sent, if that is
 // kept.
@@ -69,57 +81,57 @@ fn stand_back<S: Successors<L>, L: Ledger>(
 // Where a walk stands at its name is kept.
 #[inline(always)]
 fn offer_instance<S: Successors<L>, L: Ledger>(
-    lookup: &Lookup<'_, S>,
+    lookup: Lookup<'_, S>,
     spot: &Spot,
     stand: Stand,
     fitting: &mut FittingBindings,
 ) -> Result<bool, AllocError>
-    requires there { S.is_there lookup.now.source.now spot.now }
-    requires encodable { IsEncodableBinding (S.at lookup.now.source.now spot.now) }
+    requires there { S.is_there lookup.source.now spot.now }
+    requires encodable { IsEncodableBinding (S.at lookup.source.now spot.now) }
     ensures taken { IfOk result (λ taken. IsTrue taken →
-        fitting.new.bindings ≡ fitting.old.bindings ++ S.at lookup.now.source.now spot.now ∷ []) }
+        fitting.new.bindings ≡ fitting.old.bindings ++ S.at lookup.entry.source.now spot.now ∷ []) }
     ensures stand { IfOk result (λ taken. IsTrue taken →
         fitting.new.stands ≡ kept fitting.old.most_stands fitting.old.stands stand) }
     ensures full { IfOk result (λ taken. taken ≡ false → fitting.new ≡ fitting.old) }
     ensures fits { IfOk result (λ taken. taken ≡ fit_into fitting.old.space
-        (fitting.old.bindings ++ S.at lookup.now.source.now spot.now ∷ [])) }
+        (fitting.old.bindings ++ S.at lookup.entry.source.now spot.now ∷ [])) }
     ensures space { fitting.new.space ≡ fitting.old.space }
     ensures err { OnErr result (fitting.new ≡ fitting.old) }
-    ensures long { OnErr result (INLINE_NUMBERS < length (S.at lookup.now.source.now spot.now).name) }
+    ensures long { OnErr result (INLINE_NUMBERS < length (S.at lookup.entry.source.now spot.now).name) }
 {
-    let Lookup { alloc, source } = *lookup;
+    let Lookup { alloc, source } = lookup;
     let name = source.name(alloc, spot)?;
     Ok(fitting.offer(name, source.value(alloc, spot), stand))
 }
 
 // Sends what GetNext answers under a name where it fits, and says whether it did.
 fn send_next<S: Successors<L>, L: Ledger>(
-    lookup: &Lookup<'_, S>,
+    lookup: Lookup<'_, S>,
     name: &Oid,
     fitting: &mut FittingBindings,
     spot: &mut Spot,
     steps: &mut Steps<L>,
 ) -> Result<bool, AllocError>
-    requires stands { AreStands (S.stands lookup.now.source.now) fitting.old.stands
+    requires stands { AreStands (S.stands lookup.source.now) fitting.old.stands
         (names_of fitting.old.bindings) }
     requires root { HasRoot name.now }
     ensures taken { IfOk result (λ taken. IsTrue taken →
-        fitting.new.bindings ≡ fitting.old.bindings ++ next_answer (visible (S.shows lookup.now.source.now)
-        (S.instances lookup.now.source.now)) name.now ∷ []) }
+        fitting.new.bindings ≡ fitting.old.bindings ++ next_answer (visible (S.shows lookup.entry.source.now)
+        (S.instances lookup.entry.source.now)) name.now ∷ []) }
     ensures full { IfOk result (λ taken. taken ≡ false → fitting.new.bindings ≡ fitting.old.bindings) }
     ensures fits { IfOk result (λ taken.
         taken ≡ fit_into fitting.old.space (fitting.old.bindings ++ next_answer
-        (visible (S.shows lookup.now.source.now) (S.instances lookup.now.source.now)) name.now ∷ [])) }
-    ensures stands { AreStands (S.stands lookup.now.source.now) fitting.new.stands
+        (visible (S.shows lookup.entry.source.now) (S.instances lookup.entry.source.now)) name.now ∷ [])) }
+    ensures stands { AreStands (S.stands lookup.entry.source.now) fitting.new.stands
         (names_of fitting.new.bindings) }
     ensures space { fitting.new.space ≡ fitting.old.space }
     ensures err { OnErr result (fitting.new.bindings ≡ fitting.old.bindings) }
     ensures lacks { OnErr result
-        (LacksName (S.shows lookup.now.source.now) (S.instances lookup.now.source.now) name.now) }
-    ensures work { steps.new ≤ steps.old + most_lookups (S.shows lookup.now.source.now)
-        (S.instances lookup.now.source.now) }
+        (LacksName (S.shows lookup.entry.source.now) (S.instances lookup.entry.source.now) name.now) }
+    ensures work { steps.new ≤ steps.old + most_lookups (S.shows lookup.entry.source.now)
+        (S.instances lookup.entry.source.now) }
 {
-    let Lookup { alloc, source } = *lookup;
+    let Lookup { alloc, source } = lookup;
     let mut stand = stand_at(source, fitting, name);
     if find_next(alloc, source, name, true, &mut stand, spot, steps)? {
         return offer_instance(lookup, spot, stand, fitting);
@@ -131,38 +143,38 @@ fn send_next<S: Successors<L>, L: Ledger>(
 // Sends one repetition, GetNext of the name of each of these bindings, as far as it fits, and
 // says whether all of it did.
 fn repeat_once<S: Successors<L>, L: Ledger>(
-    lookup: &Lookup<'_, S>,
+    lookup: Lookup<'_, S>,
     asked: &[Binding],
     fitting: &mut FittingBindings,
     spot: &mut Spot,
     steps: &mut Steps<L>,
 ) -> Result<bool, AllocError>
-    requires stands { AreStands (S.stands lookup.now.source.now) fitting.old.stands
+    requires stands { AreStands (S.stands lookup.source.now) fitting.old.stands
         (names_of fitting.old.bindings) }
     requires encodable { AreEncodable asked.now }
     ensures whole { IfOk result (λ whole. IsTrue whole →
         fitting.new.bindings ≡ fitting.old.bindings ++ next_answers
-        (visible (S.shows lookup.now.source.now) (S.instances lookup.now.source.now)) (names_of asked.now)) }
+        (visible (S.shows lookup.entry.source.now) (S.instances lookup.entry.source.now)) (names_of asked.now)) }
     ensures cut { IfOk result (λ whole. whole ≡ false → (more : List Binding) →
         IsFilled fitting.new.space (fitting.old.bindings ++ (next_answers
-        (visible (S.shows lookup.now.source.now) (S.instances lookup.now.source.now))
+        (visible (S.shows lookup.entry.source.now) (S.instances lookup.entry.source.now))
         (names_of asked.now) ++ more))
         fitting.new.bindings) }
-    ensures stands { AreStands (S.stands lookup.now.source.now) fitting.new.stands
+    ensures stands { AreStands (S.stands lookup.entry.source.now) fitting.new.stands
         (names_of fitting.new.bindings) }
     ensures space { fitting.new.space ≡ fitting.old.space }
-    ensures work { let most = most_lookups (S.shows lookup.now.source.now)
-        (S.instances lookup.now.source.now) in
+    ensures work { let most = most_lookups (S.shows lookup.entry.source.now)
+        (S.instances lookup.entry.source.now) in
         steps.new + length fitting.old.bindings * most
         ≤ steps.old + (length fitting.new.bindings + 1) * most }
-    ensures whole_work { let most = most_lookups (S.shows lookup.now.source.now)
-        (S.instances lookup.now.source.now) in
+    ensures whole_work { let most = most_lookups (S.shows lookup.entry.source.now)
+        (S.instances lookup.entry.source.now) in
         IfOk result (λ whole. IsTrue whole →
         steps.new + length fitting.old.bindings * most ≤ steps.old + length fitting.new.bindings * most) }
-    ensures lacks { OnErr result (IsLacking (S.shows lookup.now.source.now)
-        (S.instances lookup.now.source.now)
+    ensures lacks { OnErr result (IsLacking (S.shows lookup.entry.source.now)
+        (S.instances lookup.entry.source.now)
         (λ found. names_of asked.now) fitting.old.bindings (fitting.old.bindings ++ next_answers
-        (visible (S.shows lookup.now.source.now) (S.instances lookup.now.source.now)) (names_of asked.now))
+        (visible (S.shows lookup.entry.source.now) (S.instances lookup.entry.source.now)) (names_of asked.now))
         fitting.new.bindings) }
 {
     for binding in asked {
@@ -176,38 +188,38 @@ fn repeat_once<S: Successors<L>, L: Ledger>(
 // Sends what GetNext answers under the name of the binding so many places back, where it
 // fits, and says whether it did.
 fn send_successor<S: Successors<L>, L: Ledger>(
-    lookup: &Lookup<'_, S>,
+    lookup: Lookup<'_, S>,
     back: usize,
     fitting: &mut FittingBindings,
     spot: &mut Spot,
     steps: &mut Steps<L>,
 ) -> Result<bool, AllocError>
-    requires stands { AreStands (S.stands lookup.now.source.now) fitting.old.stands
+    requires stands { AreStands (S.stands lookup.source.now) fitting.old.stands
         (names_of fitting.old.bindings) }
     requires some { 1 ≤ back }
     requires there { back ≤ length fitting.old.bindings }
     ensures taken { let name = get_or (names_of fitting.old.bindings)
         (length fitting.old.bindings - back) [] in
         IfOk result (λ taken. IsTrue taken →
-        fitting.new.bindings ≡ fitting.old.bindings ++ next_answer (visible (S.shows lookup.now.source.now)
-        (S.instances lookup.now.source.now)) name ∷ []) }
+        fitting.new.bindings ≡ fitting.old.bindings ++ next_answer (visible (S.shows lookup.entry.source.now)
+        (S.instances lookup.entry.source.now)) name ∷ []) }
     ensures full { IfOk result (λ taken. taken ≡ false → fitting.new.bindings ≡ fitting.old.bindings) }
     ensures fits { let name = get_or (names_of fitting.old.bindings)
         (length fitting.old.bindings - back) [] in
         IfOk result (λ taken.
         taken ≡ fit_into fitting.old.space (fitting.old.bindings ++ next_answer
-        (visible (S.shows lookup.now.source.now) (S.instances lookup.now.source.now)) name ∷ [])) }
-    ensures stands { AreStands (S.stands lookup.now.source.now) fitting.new.stands
+        (visible (S.shows lookup.entry.source.now) (S.instances lookup.entry.source.now)) name ∷ [])) }
+    ensures stands { AreStands (S.stands lookup.entry.source.now) fitting.new.stands
         (names_of fitting.new.bindings) }
     ensures space { fitting.new.space ≡ fitting.old.space }
     ensures err { OnErr result (fitting.new.bindings ≡ fitting.old.bindings) }
-    ensures lacks { OnErr result (LacksName (S.shows lookup.now.source.now)
-        (S.instances lookup.now.source.now)
+    ensures lacks { OnErr result (LacksName (S.shows lookup.entry.source.now)
+        (S.instances lookup.entry.source.now)
         (get_or (names_of fitting.old.bindings) (length fitting.old.bindings - back) [])) }
-    ensures work { steps.new ≤ steps.old + most_lookups (S.shows lookup.now.source.now)
-        (S.instances lookup.now.source.now) }
+    ensures work { steps.new ≤ steps.old + most_lookups (S.shows lookup.entry.source.now)
+        (S.instances lookup.entry.source.now) }
 {
-    let Lookup { alloc, source } = *lookup;
+    let Lookup { alloc, source } = lookup;
     let before = &fitting.last(back)[0];
     let mut stand = stand_back(source, fitting, back, &before.name);
     if find_next(alloc, source, &before.name, true, &mut stand, spot, steps)? {
@@ -220,40 +232,40 @@ fn send_successor<S: Successors<L>, L: Ledger>(
 // Sends one repetition more, GetNext of the names of the one that was sent last, which has so many
 // bindings, as far as it fits, and says whether all of it did.
 fn repeat_last<S: Successors<L>, L: Ledger>(
-    lookup: &Lookup<'_, S>,
+    lookup: Lookup<'_, S>,
     columns: usize,
     fitting: &mut FittingBindings,
     spot: &mut Spot,
     steps: &mut Steps<L>,
 ) -> Result<bool, AllocError>
-    requires stands { AreStands (S.stands lookup.now.source.now) fitting.old.stands
+    requires stands { AreStands (S.stands lookup.source.now) fitting.old.stands
         (names_of fitting.old.bindings) }
     requires columns { columns ≤ length fitting.old.bindings }
     ensures whole { let last = drop (length fitting.old.bindings - columns) fitting.old.bindings in
         IfOk result (λ whole. IsTrue whole →
         fitting.new.bindings ≡ fitting.old.bindings ++ next_answers
-        (visible (S.shows lookup.now.source.now) (S.instances lookup.now.source.now)) (names_of last)) }
+        (visible (S.shows lookup.entry.source.now) (S.instances lookup.entry.source.now)) (names_of last)) }
     ensures cut { let last = drop (length fitting.old.bindings - columns) fitting.old.bindings in
         IfOk result (λ whole. whole ≡ false → (more : List Binding) →
         IsFilled fitting.new.space (fitting.old.bindings ++ (next_answers
-        (visible (S.shows lookup.now.source.now) (S.instances lookup.now.source.now)) (names_of last)
+        (visible (S.shows lookup.entry.source.now) (S.instances lookup.entry.source.now)) (names_of last)
         ++ more))
         fitting.new.bindings) }
-    ensures stands { AreStands (S.stands lookup.now.source.now) fitting.new.stands
+    ensures stands { AreStands (S.stands lookup.entry.source.now) fitting.new.stands
         (names_of fitting.new.bindings) }
     ensures space { fitting.new.space ≡ fitting.old.space }
-    ensures work { let most = most_lookups (S.shows lookup.now.source.now)
-        (S.instances lookup.now.source.now) in
+    ensures work { let most = most_lookups (S.shows lookup.entry.source.now)
+        (S.instances lookup.entry.source.now) in
         steps.new + length fitting.old.bindings * most
         ≤ steps.old + (length fitting.new.bindings + 1) * most }
-    ensures whole_work { let most = most_lookups (S.shows lookup.now.source.now)
-        (S.instances lookup.now.source.now) in
+    ensures whole_work { let most = most_lookups (S.shows lookup.entry.source.now)
+        (S.instances lookup.entry.source.now) in
         IfOk result (λ whole. IsTrue whole →
         steps.new + length fitting.old.bindings * most ≤ steps.old + length fitting.new.bindings * most) }
     ensures lacks { let last = drop (length fitting.old.bindings - columns) fitting.old.bindings in
-        OnErr result (IsLacking (S.shows lookup.now.source.now) (S.instances lookup.now.source.now)
+        OnErr result (IsLacking (S.shows lookup.entry.source.now) (S.instances lookup.entry.source.now)
         (λ found. names_of last) fitting.old.bindings (fitting.old.bindings ++ next_answers
-        (visible (S.shows lookup.now.source.now) (S.instances lookup.now.source.now)) (names_of last))
+        (visible (S.shows lookup.entry.source.now) (S.instances lookup.entry.source.now)) (names_of last))
         fitting.new.bindings) }
 {
     for column in 0..columns {
@@ -277,31 +289,31 @@ fn has_ended(row: &[Binding]) -> bool
 // Each but the last sends a binding for each name and so takes octets: there are no more repetitions
 // than bindings that fit, and one, whatever `most` is.
 fn repeat_further<S: Successors<L>, L: Ledger>(
-    lookup: &Lookup<'_, S>,
+    lookup: Lookup<'_, S>,
     columns: usize,
     most: u32,
     fitting: &mut FittingBindings,
     spot: &mut Spot,
     steps: &mut Steps<L>,
 ) -> Result<(), AllocError>
-    requires stands { AreStands (S.stands lookup.now.source.now) fitting.old.stands
+    requires stands { AreStands (S.stands lookup.source.now) fitting.old.stands
         (names_of fitting.old.bindings) }
     requires columns { columns ≤ length fitting.old.bindings }
     ensures filled { let last = drop (length fitting.old.bindings - columns) fitting.old.bindings in
         OnOk result (IsFilled fitting.old.space (fitting.old.bindings ++ further
-        (visible (S.shows lookup.now.source.now)
-        (S.instances lookup.now.source.now)) most last) fitting.new.bindings) }
-    ensures stands { AreStands (S.stands lookup.now.source.now) fitting.new.stands
+        (visible (S.shows lookup.entry.source.now)
+        (S.instances lookup.entry.source.now)) most last) fitting.new.bindings) }
+    ensures stands { AreStands (S.stands lookup.entry.source.now) fitting.new.stands
         (names_of fitting.new.bindings) }
     ensures space { fitting.new.space ≡ fitting.old.space }
-    ensures work { let most = most_lookups (S.shows lookup.now.source.now)
-        (S.instances lookup.now.source.now) in
+    ensures work { let most = most_lookups (S.shows lookup.entry.source.now)
+        (S.instances lookup.entry.source.now) in
         steps.new + length fitting.old.bindings * most
         ≤ steps.old + (length fitting.new.bindings + 1) * most }
     ensures lacks { let last = drop (length fitting.old.bindings - columns) fitting.old.bindings in
-        OnErr result (IsLacking (S.shows lookup.now.source.now) (S.instances lookup.now.source.now)
+        OnErr result (IsLacking (S.shows lookup.entry.source.now) (S.instances lookup.entry.source.now)
         (bulk_names (names_of last) 0) fitting.old.bindings (fitting.old.bindings ++ further
-        (visible (S.shows lookup.now.source.now) (S.instances lookup.now.source.now)) most last)
+        (visible (S.shows lookup.entry.source.now) (S.instances lookup.entry.source.now)) most last)
         fitting.new.bindings) }
 {
     for i in 0..most {
@@ -317,30 +329,30 @@ fn repeat_further<S: Successors<L>, L: Ledger>(
 
 // Sends up to `most` repetitions from the names of these bindings on, as far as they fit.
 fn repeat<S: Successors<L>, L: Ledger>(
-    lookup: &Lookup<'_, S>,
+    lookup: Lookup<'_, S>,
     asked: &[Binding],
     most: u32,
     fitting: &mut FittingBindings,
     spot: &mut Spot,
     steps: &mut Steps<L>,
 ) -> Result<(), AllocError>
-    requires stands { AreStands (S.stands lookup.now.source.now) fitting.old.stands
+    requires stands { AreStands (S.stands lookup.source.now) fitting.old.stands
         (names_of fitting.old.bindings) }
     requires encodable { AreEncodable asked.now }
     ensures filled { OnOk result (IsFilled fitting.old.space (fitting.old.bindings ++ repetitions
-        (visible (S.shows lookup.now.source.now)
-        (S.instances lookup.now.source.now)) most (names_of asked.now)) fitting.new.bindings) }
-    ensures stands { AreStands (S.stands lookup.now.source.now) fitting.new.stands
+        (visible (S.shows lookup.entry.source.now)
+        (S.instances lookup.entry.source.now)) most (names_of asked.now)) fitting.new.bindings) }
+    ensures stands { AreStands (S.stands lookup.entry.source.now) fitting.new.stands
         (names_of fitting.new.bindings) }
     ensures space { fitting.new.space ≡ fitting.old.space }
-    ensures work { let most = most_lookups (S.shows lookup.now.source.now)
-        (S.instances lookup.now.source.now) in
+    ensures work { let most = most_lookups (S.shows lookup.entry.source.now)
+        (S.instances lookup.entry.source.now) in
         steps.new + length fitting.old.bindings * most
         ≤ steps.old + (length fitting.new.bindings + 1) * most }
-    ensures lacks { OnErr result (IsLacking (S.shows lookup.now.source.now)
-        (S.instances lookup.now.source.now)
+    ensures lacks { OnErr result (IsLacking (S.shows lookup.entry.source.now)
+        (S.instances lookup.entry.source.now)
         (bulk_names (names_of asked.now) 0) fitting.old.bindings (fitting.old.bindings ++ repetitions
-        (visible (S.shows lookup.now.source.now) (S.instances lookup.now.source.now)) most
+        (visible (S.shows lookup.entry.source.now) (S.instances lookup.entry.source.now)) most
         (names_of asked.now))
         fitting.new.bindings) }
 {
@@ -355,7 +367,7 @@ fn repeat<S: Successors<L>, L: Ledger>(
 
 // Sends the first `once` names once, and the others up to `most` times, as far as they fit.
 fn send_list<S: Successors<L>, L: Ledger>(
-    lookup: &Lookup<'_, S>,
+    lookup: Lookup<'_, S>,
     once: usize,
     most: u32,
     asked: &[Binding],
@@ -363,24 +375,24 @@ fn send_list<S: Successors<L>, L: Ledger>(
     spot: &mut Spot,
     steps: &mut Steps<L>,
 ) -> Result<(), AllocError>
-    requires stands { AreStands (S.stands lookup.now.source.now) fitting.old.stands
+    requires stands { AreStands (S.stands lookup.source.now) fitting.old.stands
         (names_of fitting.old.bindings) }
     requires once { once ≤ length asked.now }
     requires encodable { AreEncodable asked.now }
     ensures filled { OnOk result (IsFilled fitting.old.space (fitting.old.bindings ++ bulk_list
-        (visible (S.shows lookup.now.source.now) (S.instances lookup.now.source.now)) once most
+        (visible (S.shows lookup.entry.source.now) (S.instances lookup.entry.source.now)) once most
         (names_of asked.now)) fitting.new.bindings) }
-    ensures stands { AreStands (S.stands lookup.now.source.now) fitting.new.stands
+    ensures stands { AreStands (S.stands lookup.entry.source.now) fitting.new.stands
         (names_of fitting.new.bindings) }
     ensures space { fitting.new.space ≡ fitting.old.space }
-    ensures work { let most = most_lookups (S.shows lookup.now.source.now)
-        (S.instances lookup.now.source.now) in
+    ensures work { let most = most_lookups (S.shows lookup.entry.source.now)
+        (S.instances lookup.entry.source.now) in
         steps.new + length fitting.old.bindings * most
         ≤ steps.old + (length fitting.new.bindings + 1) * most }
-    ensures lacks { OnErr result (IsLacking (S.shows lookup.now.source.now)
-        (S.instances lookup.now.source.now)
+    ensures lacks { OnErr result (IsLacking (S.shows lookup.entry.source.now)
+        (S.instances lookup.entry.source.now)
         (bulk_names (names_of asked.now) once) fitting.old.bindings (fitting.old.bindings ++ bulk_list
-        (visible (S.shows lookup.now.source.now) (S.instances lookup.now.source.now)) once most
+        (visible (S.shows lookup.entry.source.now) (S.instances lookup.entry.source.now)) once most
         (names_of asked.now))
         fitting.new.bindings) }
 {
@@ -466,7 +478,7 @@ pub fn get_bulk<S: Successors<L>, L: Ledger>(
     let mut fitting = FittingBindings::new(alloc, bindings_space(request), columns)?;
     let mut spot = Spot::new();
     let lookup = Lookup { alloc, source };
-    let filled = send_list(&lookup, once, most, asked, &mut fitting, &mut spot, steps);
+    let filled = send_list(lookup, once, most, asked, &mut fitting, &mut spot, steps);
     let bindings = fitting.into_bindings();
     if filled.is_err() {
         let before = bindings.as_slice().len();

@@ -157,6 +157,18 @@ fn last_len(bindings: &[Binding], most: usize) -> Option<usize>
     encoded_len(&bindings[bindings.len() - 1], most)
 }
 
+// Keeps one place alone where a walk stands, in place of the one that was kept.
+fn keep_one(stands: &mut ArrayVec<Stand, MAX_STANDS>, stand: Stand)
+    ensures { stands.new.items ≡ stand ∷ [] }
+{
+    if let [only] = stands.as_mut_slice() {
+        *only = stand;
+        return;
+    }
+    stands.clear();
+    stands.push(stand);
+}
+
 // Keeps where a walk stands at the name of the last binding, in place of the first one where there are
 // as many as are kept.
 fn keep(stands: &mut ArrayVec<Stand, MAX_STANDS>, most: usize, stand: Stand)
@@ -166,8 +178,10 @@ fn keep(stands: &mut ArrayVec<Stand, MAX_STANDS>, most: usize, stand: Stand)
     ensures { stands.new.items ≡ kept most stands.old.items stand }
 {
     if most == 1 {
-        stands.pop();
-    } else if stands.len() >= most {
+        keep_one(stands, stand);
+        return;
+    }
+    if stands.len() >= most {
         stands.remove(0);
     }
     stands.push(stand);

@@ -10,39 +10,39 @@ use Rattle.agent_core.proofs.bulk.repeat_last.Goals as goal
 
 pub send_successor-requires-clause-there : goal.send_successor-requires-clause-there
 send_successor-requires-clause-there g c =
-    omega (arith, c.requires.columns, sent_length (visible (g.S.View.shows c.args.lookup.now.source.now) (g.S.Successors.instances c.args.lookup.now.source.now)) c.args.fitting.now.bindings c.loop-column.fitting.bindings c.args.columns c.loop-column.column c.requires.columns (omega (arith, c.loop-column-test.true)) c.loop-column.invariant.whole)
+    omega (arith, c.requires.columns, sent_length (visible (g.S.View.shows c.args.lookup.source.now) (g.S.Successors.instances c.args.lookup.source.now)) c.args.fitting.now.bindings c.loop-column.fitting.bindings c.args.columns c.loop-column.column c.requires.columns (omega (arith, c.loop-column-test.true)) c.loop-column.invariant.whole)
 
 pub returns-then-not-branch-clause-cut : goal.returns-then-not-branch-clause-cut
 returns-then-not-branch-clause-cut g c = λ _ more.
-    once_cut (visible (g.S.View.shows c.args.lookup.now.source.now) (g.S.Successors.instances c.args.lookup.now.source.now)) (names_of (drop (length c.args.fitting.now.bindings - c.args.columns) c.args.fitting.now.bindings)) c.loop-column.column (get_or (names_of c.loop-column.fitting.bindings) (length c.loop-column.fitting.bindings - c.args.columns) []) c.send_successor.new.fitting.space c.args.fitting.now.bindings c.loop-column.fitting.bindings c.send_successor.new.fitting.bindings more
-    (columns_within c.args.fitting.now.bindings c.args.columns c.loop-column.column c.requires.columns c.loop-column-test.true) (name_back (visible (g.S.View.shows c.args.lookup.now.source.now) (g.S.Successors.instances c.args.lookup.now.source.now)) c.args.fitting.now.bindings c.loop-column.fitting.bindings c.args.columns c.loop-column.column (get_or (names_of c.loop-column.fitting.bindings) (length c.loop-column.fitting.bindings - c.args.columns) []) c.requires.columns c.loop-column-test.true c.loop-column.invariant.whole refl) c.loop-column.invariant.whole (search rules) (search rules)
+    once_cut (visible (g.S.View.shows c.args.lookup.source.now) (g.S.Successors.instances c.args.lookup.source.now)) (names_of (drop (length c.args.fitting.now.bindings - c.args.columns) c.args.fitting.now.bindings)) c.loop-column.column (get_or (names_of c.loop-column.fitting.bindings) (length c.loop-column.fitting.bindings - c.args.columns) []) c.send_successor.new.fitting.space c.args.fitting.now.bindings c.loop-column.fitting.bindings c.send_successor.new.fitting.bindings more
+    (columns_within c.args.fitting.now.bindings c.args.columns c.loop-column.column c.requires.columns c.loop-column-test.true) (name_back (visible (g.S.View.shows c.args.lookup.source.now) (g.S.Successors.instances c.args.lookup.source.now)) c.args.fitting.now.bindings c.loop-column.fitting.bindings c.args.columns c.loop-column.column (get_or (names_of c.loop-column.fitting.bindings) (length c.loop-column.fitting.bindings - c.args.columns) []) c.requires.columns c.loop-column-test.true c.loop-column.invariant.whole refl) c.loop-column.invariant.whole (search rules) (search rules)
 
 pub loop-column-preserved : goal.loop-column-preserved
 loop-column-preserved g c = record {
   whole =
-      once_more (visible (g.S.View.shows c.args.lookup.now.source.now) (g.S.Successors.instances c.args.lookup.now.source.now)) (names_of (drop (length c.args.fitting.now.bindings - c.args.columns) c.args.fitting.now.bindings)) c.loop-column.column (get_or (names_of c.loop-column.fitting.bindings) (length c.loop-column.fitting.bindings - c.args.columns) []) c.args.fitting.now.bindings c.loop-column.fitting.bindings c.send_successor.new.fitting.bindings
-      (columns_within c.args.fitting.now.bindings c.args.columns c.loop-column.column c.requires.columns c.loop-column-test.true) (name_back (visible (g.S.View.shows c.args.lookup.now.source.now) (g.S.Successors.instances c.args.lookup.now.source.now)) c.args.fitting.now.bindings c.loop-column.fitting.bindings c.args.columns c.loop-column.column (get_or (names_of c.loop-column.fitting.bindings) (length c.loop-column.fitting.bindings - c.args.columns) []) c.requires.columns c.loop-column-test.true c.loop-column.invariant.whole refl) c.loop-column.invariant.whole (search rules);
+      once_more (visible (g.S.View.shows c.args.lookup.source.now) (g.S.Successors.instances c.args.lookup.source.now)) (names_of (drop (length c.args.fitting.now.bindings - c.args.columns) c.args.fitting.now.bindings)) c.loop-column.column (get_or (names_of c.loop-column.fitting.bindings) (length c.loop-column.fitting.bindings - c.args.columns) []) c.args.fitting.now.bindings c.loop-column.fitting.bindings c.send_successor.new.fitting.bindings
+      (columns_within c.args.fitting.now.bindings c.args.columns c.loop-column.column c.requires.columns c.loop-column-test.true) (name_back (visible (g.S.View.shows c.args.lookup.source.now) (g.S.Successors.instances c.args.lookup.source.now)) c.args.fitting.now.bindings c.loop-column.fitting.bindings c.args.columns c.loop-column.column (get_or (names_of c.loop-column.fitting.bindings) (length c.loop-column.fitting.bindings - c.args.columns) []) c.requires.columns c.loop-column-test.true c.loop-column.invariant.whole refl) c.loop-column.invariant.whole (search rules);
   stands = c.in_ok-send_successor.ensures.stands;
   space = search rules;
   work =
-      pushed_lookups c.args.steps.now c.loop-column.steps c.send_successor.new.steps (most_lookups (g.S.View.shows c.args.lookup.now.source.now) (g.S.Successors.instances c.args.lookup.now.source.now))
-      c.args.fitting.now.bindings c.loop-column.fitting.bindings c.send_successor.new.fitting.bindings (next_answer (visible (g.S.View.shows c.args.lookup.now.source.now) (g.S.Successors.instances c.args.lookup.now.source.now)) (get_or (names_of c.loop-column.fitting.bindings) (length c.loop-column.fitting.bindings - c.args.columns) []))
+      pushed_lookups c.args.steps.now c.loop-column.steps c.send_successor.new.steps (most_lookups (g.S.View.shows c.args.lookup.source.now) (g.S.Successors.instances c.args.lookup.source.now))
+      c.args.fitting.now.bindings c.loop-column.fitting.bindings c.send_successor.new.fitting.bindings (next_answer (visible (g.S.View.shows c.args.lookup.source.now) (g.S.Successors.instances c.args.lookup.source.now)) (get_or (names_of c.loop-column.fitting.bindings) (length c.loop-column.fitting.bindings - c.args.columns) []))
       c.loop-column.invariant.work c.in_ok-send_successor.ensures.work (search rules);
 }
 
 pub returns-in_err-send_successor-clause-work : goal.returns-in_err-send_successor-clause-work
 returns-in_err-send_successor-clause-work g c =
-    cut_lookups c.args.steps.now c.loop-column.steps c.send_successor.new.steps (most_lookups (g.S.View.shows c.args.lookup.now.source.now) (g.S.Successors.instances c.args.lookup.now.source.now))
+    cut_lookups c.args.steps.now c.loop-column.steps c.send_successor.new.steps (most_lookups (g.S.View.shows c.args.lookup.source.now) (g.S.Successors.instances c.args.lookup.source.now))
     c.args.fitting.now.bindings c.loop-column.fitting.bindings c.send_successor.new.fitting.bindings c.loop-column.invariant.work (search rules) (search rules)
 
 pub returns-then-not-branch-clause-work : goal.returns-then-not-branch-clause-work
 returns-then-not-branch-clause-work g c =
-    cut_lookups c.args.steps.now c.loop-column.steps c.send_successor.new.steps (most_lookups (g.S.View.shows c.args.lookup.now.source.now) (g.S.Successors.instances c.args.lookup.now.source.now))
+    cut_lookups c.args.steps.now c.loop-column.steps c.send_successor.new.steps (most_lookups (g.S.View.shows c.args.lookup.source.now) (g.S.Successors.instances c.args.lookup.source.now))
     c.args.fitting.now.bindings c.loop-column.fitting.bindings c.send_successor.new.fitting.bindings c.loop-column.invariant.work (search rules) (search rules)
 
 pub returns-clause-work : goal.returns-clause-work
 returns-clause-work g c =
-    beside_within c.args.steps.now c.loop-column.steps (length c.args.fitting.now.bindings) (length c.loop-column.fitting.bindings) (most_lookups (g.S.View.shows c.args.lookup.now.source.now) (g.S.Successors.instances c.args.lookup.now.source.now)) c.loop-column.invariant.work
+    beside_within c.args.steps.now c.loop-column.steps (length c.args.fitting.now.bindings) (length c.loop-column.fitting.bindings) (most_lookups (g.S.View.shows c.args.lookup.source.now) (g.S.Successors.instances c.args.lookup.source.now)) c.loop-column.invariant.work
 
 pub returns-clause-whole_work : goal.returns-clause-whole_work
 returns-clause-whole_work g c = λ _. c.loop-column.invariant.work
@@ -50,5 +50,5 @@ returns-clause-whole_work g c = λ _. c.loop-column.invariant.work
 pub returns-in_err-send_successor-clause-lacks : goal.returns-in_err-send_successor-clause-lacks
 returns-in_err-send_successor-clause-lacks g c =
     on_err_always c.from_residual.result
-    (once_lacks (g.S.View.shows c.args.lookup.now.source.now) (g.S.Successors.instances c.args.lookup.now.source.now) (names_of (drop (length c.args.fitting.now.bindings - c.args.columns) c.args.fitting.now.bindings)) c.loop-column.column (get_or (names_of c.loop-column.fitting.bindings) (length c.loop-column.fitting.bindings - c.args.columns) []) c.args.fitting.now.bindings c.loop-column.fitting.bindings c.send_successor.new.fitting.bindings
-    (columns_within c.args.fitting.now.bindings c.args.columns c.loop-column.column c.requires.columns c.loop-column-test.true) (name_back (visible (g.S.View.shows c.args.lookup.now.source.now) (g.S.Successors.instances c.args.lookup.now.source.now)) c.args.fitting.now.bindings c.loop-column.fitting.bindings c.args.columns c.loop-column.column (get_or (names_of c.loop-column.fitting.bindings) (length c.loop-column.fitting.bindings - c.args.columns) []) c.requires.columns c.loop-column-test.true c.loop-column.invariant.whole refl) c.loop-column.invariant.whole c.in_err-send_successor.ensures.err c.in_err-send_successor.ensures.lacks)
+    (once_lacks (g.S.View.shows c.args.lookup.source.now) (g.S.Successors.instances c.args.lookup.source.now) (names_of (drop (length c.args.fitting.now.bindings - c.args.columns) c.args.fitting.now.bindings)) c.loop-column.column (get_or (names_of c.loop-column.fitting.bindings) (length c.loop-column.fitting.bindings - c.args.columns) []) c.args.fitting.now.bindings c.loop-column.fitting.bindings c.send_successor.new.fitting.bindings
+    (columns_within c.args.fitting.now.bindings c.args.columns c.loop-column.column c.requires.columns c.loop-column-test.true) (name_back (visible (g.S.View.shows c.args.lookup.source.now) (g.S.Successors.instances c.args.lookup.source.now)) c.args.fitting.now.bindings c.loop-column.fitting.bindings c.args.columns c.loop-column.column (get_or (names_of c.loop-column.fitting.bindings) (length c.loop-column.fitting.bindings - c.args.columns) []) c.requires.columns c.loop-column-test.true c.loop-column.invariant.whole refl) c.loop-column.invariant.whole c.in_err-send_successor.ensures.err c.in_err-send_successor.ensures.lacks)

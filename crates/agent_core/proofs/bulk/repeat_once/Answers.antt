@@ -16,35 +16,35 @@ send_next-requires-clause-root g c =
 
 pub returns-then-not-branch-clause-cut : goal.returns-then-not-branch-clause-cut
 returns-then-not-branch-clause-cut g c = λ _ more.
-    once_cut (visible (g.S.View.shows c.args.lookup.now.source.now) (g.S.Successors.instances c.args.lookup.now.source.now)) (names_of c.args.asked.now) c.loop-binding.binding-index c.binding-item.result.name c.send_next.new.fitting.space c.args.fitting.now.bindings c.loop-binding.fitting.bindings c.send_next.new.fitting.bindings more
+    once_cut (visible (g.S.View.shows c.args.lookup.source.now) (g.S.Successors.instances c.args.lookup.source.now)) (names_of c.args.asked.now) c.loop-binding.binding-index c.binding-item.result.name c.send_next.new.fitting.space c.args.fitting.now.bindings c.loop-binding.fitting.bindings c.send_next.new.fitting.bindings more
     (omega (arith, c.loop-binding-test.true, names-length c.args.asked.now)) (names-at c.args.asked.now c.loop-binding.binding-index c.binding-item.result c.loop-binding-test.true c.binding-item.is) c.loop-binding.invariant.whole (search rules) (search rules)
 
 pub loop-binding-preserved : goal.loop-binding-preserved
 loop-binding-preserved g c = record {
   whole =
-      once_more (visible (g.S.View.shows c.args.lookup.now.source.now) (g.S.Successors.instances c.args.lookup.now.source.now)) (names_of c.args.asked.now) c.loop-binding.binding-index c.binding-item.result.name c.args.fitting.now.bindings c.loop-binding.fitting.bindings c.send_next.new.fitting.bindings
+      once_more (visible (g.S.View.shows c.args.lookup.source.now) (g.S.Successors.instances c.args.lookup.source.now)) (names_of c.args.asked.now) c.loop-binding.binding-index c.binding-item.result.name c.args.fitting.now.bindings c.loop-binding.fitting.bindings c.send_next.new.fitting.bindings
       (omega (arith, c.loop-binding-test.true, names-length c.args.asked.now)) (names-at c.args.asked.now c.loop-binding.binding-index c.binding-item.result c.loop-binding-test.true c.binding-item.is) c.loop-binding.invariant.whole (search rules);
   stands = c.in_ok-send_next.ensures.stands;
   space = search rules;
   work =
-      pushed_lookups c.args.steps.now c.loop-binding.steps c.send_next.new.steps (most_lookups (g.S.View.shows c.args.lookup.now.source.now) (g.S.Successors.instances c.args.lookup.now.source.now))
-      c.args.fitting.now.bindings c.loop-binding.fitting.bindings c.send_next.new.fitting.bindings (next_answer (visible (g.S.View.shows c.args.lookup.now.source.now) (g.S.Successors.instances c.args.lookup.now.source.now)) c.binding-item.result.name)
+      pushed_lookups c.args.steps.now c.loop-binding.steps c.send_next.new.steps (most_lookups (g.S.View.shows c.args.lookup.source.now) (g.S.Successors.instances c.args.lookup.source.now))
+      c.args.fitting.now.bindings c.loop-binding.fitting.bindings c.send_next.new.fitting.bindings (next_answer (visible (g.S.View.shows c.args.lookup.source.now) (g.S.Successors.instances c.args.lookup.source.now)) c.binding-item.result.name)
       c.loop-binding.invariant.work c.in_ok-send_next.ensures.work (search rules);
 }
 
 pub returns-in_err-send_next-clause-work : goal.returns-in_err-send_next-clause-work
 returns-in_err-send_next-clause-work g c =
-    cut_lookups c.args.steps.now c.loop-binding.steps c.send_next.new.steps (most_lookups (g.S.View.shows c.args.lookup.now.source.now) (g.S.Successors.instances c.args.lookup.now.source.now))
+    cut_lookups c.args.steps.now c.loop-binding.steps c.send_next.new.steps (most_lookups (g.S.View.shows c.args.lookup.source.now) (g.S.Successors.instances c.args.lookup.source.now))
     c.args.fitting.now.bindings c.loop-binding.fitting.bindings c.send_next.new.fitting.bindings c.loop-binding.invariant.work (search rules) (search rules)
 
 pub returns-then-not-branch-clause-work : goal.returns-then-not-branch-clause-work
 returns-then-not-branch-clause-work g c =
-    cut_lookups c.args.steps.now c.loop-binding.steps c.send_next.new.steps (most_lookups (g.S.View.shows c.args.lookup.now.source.now) (g.S.Successors.instances c.args.lookup.now.source.now))
+    cut_lookups c.args.steps.now c.loop-binding.steps c.send_next.new.steps (most_lookups (g.S.View.shows c.args.lookup.source.now) (g.S.Successors.instances c.args.lookup.source.now))
     c.args.fitting.now.bindings c.loop-binding.fitting.bindings c.send_next.new.fitting.bindings c.loop-binding.invariant.work (search rules) (search rules)
 
 pub returns-clause-work : goal.returns-clause-work
 returns-clause-work g c =
-    beside_within c.args.steps.now c.loop-binding.steps (length c.args.fitting.now.bindings) (length c.loop-binding.fitting.bindings) (most_lookups (g.S.View.shows c.args.lookup.now.source.now) (g.S.Successors.instances c.args.lookup.now.source.now)) c.loop-binding.invariant.work
+    beside_within c.args.steps.now c.loop-binding.steps (length c.args.fitting.now.bindings) (length c.loop-binding.fitting.bindings) (most_lookups (g.S.View.shows c.args.lookup.source.now) (g.S.Successors.instances c.args.lookup.source.now)) c.loop-binding.invariant.work
 
 pub returns-clause-whole_work : goal.returns-clause-whole_work
 returns-clause-whole_work g c = λ _. c.loop-binding.invariant.work
@@ -52,5 +52,5 @@ returns-clause-whole_work g c = λ _. c.loop-binding.invariant.work
 pub returns-in_err-send_next-clause-lacks : goal.returns-in_err-send_next-clause-lacks
 returns-in_err-send_next-clause-lacks g c =
     on_err_always c.from_residual.result
-    (once_lacks (g.S.View.shows c.args.lookup.now.source.now) (g.S.Successors.instances c.args.lookup.now.source.now) (names_of c.args.asked.now) c.loop-binding.binding-index c.binding-item.result.name c.args.fitting.now.bindings c.loop-binding.fitting.bindings c.send_next.new.fitting.bindings
+    (once_lacks (g.S.View.shows c.args.lookup.source.now) (g.S.Successors.instances c.args.lookup.source.now) (names_of c.args.asked.now) c.loop-binding.binding-index c.binding-item.result.name c.args.fitting.now.bindings c.loop-binding.fitting.bindings c.send_next.new.fitting.bindings
     (omega (arith, c.loop-binding-test.true, names-length c.args.asked.now)) (names-at c.args.asked.now c.loop-binding.binding-index c.binding-item.result c.loop-binding-test.true c.binding-item.is) c.loop-binding.invariant.whole c.in_err-send_next.ensures.err c.in_err-send_next.ensures.lacks)

@@ -14,7 +14,7 @@ repeat_once-requires-clause-encodable g c = subst AreEncodable (sym c.split_at.e
 
 pub returns-then-not-branch-clause-filled : goal.returns-then-not-branch-clause-filled
 returns-then-not-branch-clause-filled g c =
-    let rows : List Binding = visible (g.S.View.shows c.args.lookup.now.source.now) (g.S.Successors.instances c.args.lookup.now.source.now) in
+    let rows : List Binding = visible (g.S.View.shows c.args.lookup.source.now) (g.S.Successors.instances c.args.lookup.source.now) in
     filled_at c.repeat_once.new.fitting.space c.args.fitting.now.space _ _ c.repeat_once.new.fitting.bindings c.in_ok-repeat_once.ensures.space
     (ap (λ z. c.args.fitting.now.bindings ++ z) (list_parts rows c.args.once c.args.most c.args.asked.now c.split_at.result.0.now c.split_at.result.1.now c.split_at.ensures.front c.split_at.ensures.back))
     (c.in_ok-repeat_once.ensures.cut c.if-not-branch.true (repetitions rows c.args.most (names_of c.split_at.result.1.now)))
@@ -24,7 +24,7 @@ repeat-requires-clause-encodable g c = subst AreEncodable (sym c.split_at.ensure
 
 pub returns-clause-filled : goal.returns-clause-filled
 returns-clause-filled g c =
-    let rows : List Binding = visible (g.S.View.shows c.args.lookup.now.source.now) (g.S.Successors.instances c.args.lookup.now.source.now) in
+    let rows : List Binding = visible (g.S.View.shows c.args.lookup.source.now) (g.S.Successors.instances c.args.lookup.source.now) in
     filled_ok c.repeat.result c.repeat_once.new.fitting.space c.args.fitting.now.space _ _ c.repeat.new.fitting.bindings c.in_ok-repeat_once.ensures.space
     (list_whole rows c.args.once c.args.most c.args.asked.now c.split_at.result.0.now c.split_at.result.1.now c.args.fitting.now.bindings c.repeat_once.new.fitting.bindings
     (c.in_ok-repeat_once.ensures.whole c.if-not-branch.false) c.split_at.ensures.front c.split_at.ensures.back)
@@ -33,10 +33,10 @@ returns-clause-filled g c =
 pub returns-in_err-repeat_once-clause-lacks : goal.returns-in_err-repeat_once-clause-lacks
 returns-in_err-repeat_once-clause-lacks g c =
     on_err_always c.from_residual.result
-    (once_part_lacks (g.S.View.shows c.args.lookup.now.source.now) (g.S.Successors.instances c.args.lookup.now.source.now) c.args.once c.args.most c.args.asked.now c.split_at.result.0.now c.split_at.result.1.now c.args.fitting.now.bindings c.repeat_once.new.fitting.bindings
+    (once_part_lacks (g.S.View.shows c.args.lookup.source.now) (g.S.Successors.instances c.args.lookup.source.now) c.args.once c.args.most c.args.asked.now c.split_at.result.0.now c.split_at.result.1.now c.args.fitting.now.bindings c.repeat_once.new.fitting.bindings
     c.split_at.ensures.front c.split_at.ensures.back c.in_err-repeat_once.ensures.lacks)
 
 pub returns-clause-lacks : goal.returns-clause-lacks
 returns-clause-lacks g c =
-    columns_lacks (g.S.View.shows c.args.lookup.now.source.now) (g.S.Successors.instances c.args.lookup.now.source.now) c.repeat.result c.args.once c.args.most c.args.asked.now c.split_at.result.0.now c.split_at.result.1.now c.args.fitting.now.bindings c.repeat_once.new.fitting.bindings c.repeat.new.fitting.bindings
+    columns_lacks (g.S.View.shows c.args.lookup.source.now) (g.S.Successors.instances c.args.lookup.source.now) c.repeat.result c.args.once c.args.most c.args.asked.now c.split_at.result.0.now c.split_at.result.1.now c.args.fitting.now.bindings c.repeat_once.new.fitting.bindings c.repeat.new.fitting.bindings
     c.requires.once c.split_at.ensures.front c.split_at.ensures.back (c.in_ok-repeat_once.ensures.whole c.if-not-branch.false) c.repeat.ensures.lacks
