@@ -11,3 +11,4 @@ pub mod StaticKept
 pub mod StaticRows
 pub mod StaticSettings
 pub mod Same
+pub mod Ranges

@@ -35,6 +35,9 @@ use std::marker::Model;
 /// The most addresses that a bridge learns.
 pub const MAX_LEARNED_ROWS: usize = 1_024;
 
+/// The greatest value of a setting: the greatest path cost (IEEE 802.1D-2004 17.14).
+pub const MAX_SETTING: u32 = 200_000_000;
+
 /// What each port sends, port by port.
 pub type Bpdus = ArrayVec<Option<Bpdu>, MAX_PORTS>;
 
@@ -186,12 +189,14 @@ impl Bridge {
         }
     }
 
-    /// What the bridge shows of port `port`, for the objects of its ports (RFC 4188, RFC 4318).
+    /// What the bridge shows of port `port`, for the objects of its ports (RFC 4188, RFC 4318). Its
+    /// cost is at most the greatest setting.
     pub fn port_facts(&self, port: u16) -> PortFacts
         requires { HasPort self.now port }
         ensures facts { result ≡ port_facts_of self.now port }
         ensures ifindex_least { 1 ≤ result.ifindex }
         ensures ifindex_most { result.ifindex ≤ MAX_IFINDEX }
+        ensures cost_most { result.cost ≤ MAX_SETTING }
     {
         let at = port as usize - 1;
         let config = self.tree.config(port);
@@ -223,13 +228,25 @@ impl Bridge {
         &self.fdb
     }
 
-    /// The value of a setting that there is, in the unit of its key, for the objects that show it.
+    /// The value of a setting that there is, in the unit of its key, for the objects that show it. It
+    /// is at most the greatest setting.
     pub fn get_setting(&self, key: Key) -> u32
         requires { HasKey self.now.settings key }
         ensures value { result ≡ get self.now.settings key }
         ensures in_range { IsInRange key result }
+        ensures most { result ≤ MAX_SETTING }
     {
         self.settings.get(key)
+    }
+
+    /// The value of a setting of port `port`, which has every such setting.
+    pub fn port_setting(&self, port: u16, key: PortKey) -> u32
+        requires { HasPort self.now port }
+        ensures value { result ≡ get self.now.settings (Key.Port port key) }
+        ensures in_range { IsInRange (Key.Port port key) result }
+        ensures most { result ≤ MAX_SETTING }
+    {
+        self.settings.get(Key::Port(port, key))
     }
 
     /// A copy of all settings but the static rows, to see later by `has_settings` whether they are

@@ -32,17 +32,19 @@ ghost use Rattle.bridge_core.specs.Facts.{facts_of};
 ghost use Rattle.bridge_core.specs.Opening.{opening_bridge};
 ghost use Rattle.bridge_core.specs.Runs.{Event, after, run, IsActive};
 
-use crate::bridge::MAX_LEARNED_ROWS;
+use crate::bridge::{MAX_LEARNED_ROWS, MAX_SETTING};
 use fdb_core::{MAX_AGING_TIME, MAX_SET_PORTS, MIN_AGING_TIME};
 use rstp_core::{BridgeKey, Key, MAX_IFINDEX, MAX_PORTS};
 
 /// A bridge has at most 32 ports, which a set of ports can have, and learns at most 1,024 addresses.
-/// Interface numbers are at most 2147483647 (RFC 2863, InterfaceIndex).
+/// Interface numbers are at most 2147483647 (RFC 2863, InterfaceIndex), and settings at most
+/// 200000000 (IEEE 802.1D-2004 17.14).
 pub fn limits_are_fixed()
     ensures ports { MAX_PORTS ≡ 32 }
     ensures sets { MAX_SET_PORTS ≡ MAX_PORTS }
     ensures learned { MAX_LEARNED_ROWS ≡ 1024 }
     ensures ifindex { MAX_IFINDEX ≡ 2147483647 }
+    ensures setting { MAX_SETTING ≡ 200000000 }
 {}
 
 /// The setting of the aging time has the bounds of that time (IEEE 802.1D-2004, Table 7-5).

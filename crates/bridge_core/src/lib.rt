@@ -4,13 +4,14 @@
 //!
 //! # Entry points
 //! [`Bridge`]: `new`, `frame`, `tick`, `link`, `settle`; `ports`, `facts`, `port_facts`, `fdb`,
-//! `get_setting`, `put_setting`, `copied_settings`, `has_settings`; of static rows `is_static_index`,
-//! `is_made`, `allowed`, `put_made`, `put_allowed`, `next_static`, `static_places`,
-//! `reserve_static`, `hold_static` and `known_statics`; `try_copy` and `flat`, which gives a
-//! [`FlatBridge`] with `same`. Only `frame` may take memory, for a learned address,
+//! `get_setting`, `port_setting`, `put_setting`, `copied_settings`, `has_settings`; of static rows
+//! `is_static_index`, `is_made`, `allowed`, `put_made`, `put_allowed`, `next_static`,
+//! `static_places`, `reserve_static`, `hold_static` and `known_statics`; `try_copy` and `flat`, which
+//! gives a [`FlatBridge`] with `same`. Only `frame` may take memory, for a learned address,
 //! `reserve_static`, and the two copies, for their learned and static rows. `frame` gives a
 //! [`Forwarding`], which has what each port sends as [`Bpdus`]; `new` refuses by a [`BridgeFault`];
-//! [`Facts`] and [`PortFacts`] are what is shown. At most [`MAX_LEARNED_ROWS`] addresses are learned.
+//! [`Facts`] and [`PortFacts`] are what is shown. At most [`MAX_LEARNED_ROWS`] addresses are learned,
+//! and a setting is at most [`MAX_SETTING`].
 //!
 //! # Definitions
 //! `specs/Bridge.antt`, `specs/Opening.antt`: what a bridge is, and is at first;
@@ -42,7 +43,7 @@ mod learning;
 mod opening;
 mod statics;
 
-pub use bridge::{Bpdus, Bridge, Forwarding, MAX_LEARNED_ROWS};
+pub use bridge::{Bpdus, Bridge, Forwarding, MAX_LEARNED_ROWS, MAX_SETTING};
 pub use facts::{Facts, PortFacts};
 pub use fault::BridgeFault;
 pub use flat::FlatBridge;

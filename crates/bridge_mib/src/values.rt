@@ -101,8 +101,7 @@ pub fn port_setting(bridge: &Bridge, port: u16, key: PortKey) -> Value
     requires { HasPort bridge.now port }
     ensures { result ≡ port_setting bridge.now port key }
 {
-    let _ports = bridge.ports();
-    integer(bridge.get_setting(Key::Port(port, key)))
+    integer(bridge.port_setting(port, key))
 }
 
 /// The cost of the path by a port that is in use (IEEE 802.1D-2004, 17.14).
@@ -111,7 +110,5 @@ pub fn path_cost(bridge: &Bridge, port: u16) -> u32
     ensures cost { result ≡ (port_facts_of bridge.now port).cost }
     ensures most { result ≤ MAX_COST }
 {
-    let _ports = bridge.ports();
-    let _setting = bridge.get_setting(Key::Port(port, PortKey::Cost));
     bridge.port_facts(port).cost
 }

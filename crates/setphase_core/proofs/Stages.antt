@@ -16,14 +16,12 @@ use Rattle.setphase_core.specs.Searching.{IsOwnerPlace}
 use Rattle.setphase_core.specs.Settings.{put}
 use Rattle.setphase_core.specs.Variables.{NamedAssignment, writings_of, writings, variable, assignment_for, refusals_for, refusal_for, single_refusals}
 use Rattle.setphase_core.specs.Together.{assign, assignments, contradicts, contradicting, is_timer, timer_numbers}
-use Rattle.setphase_core.specs.Staging.{object_at, assignments_of, assignment_of_entry, IsDistinct, IsLegal, AreLegal}
+use Rattle.setphase_core.specs.Staging.{object_at, entry_at, assignments_of, assignment_of_entry, IsDistinct, IsLegal, AreLegal, IsUnderWay}
 use Rattle.setphase_core.specs.Tested.{first_in, value_among, standing_by, is_contradicting, staged_by, IsPassed, IsFaulty, AreStaged, ArePassed}
-use Rattle.setphase_core.specs.Writing.{assignments_in}
 use Rattle.setphase_core.proofs.Firsts.{first_in-append, is_first, is_repeated, is_contradicted, IsKnown, known_first, known_again, Agrees, agrees_more, agrees_last, value_last, contradicts_is, assign-append, put_among, distinct_last}
-use Rattle.setphase_core.proofs.Ranges.{IsSound, legal}
 use Rattle.setphase_core.proofs.Slotted.{reserves_more, few, staged_again, staged_first}
 use Rattle.setphase_core.proofs.States.{rows_of-set}
-use Rattle.setphase_core.proofs.Writings.{reserved_for, owner_within, assigned_ok, within_ok, placed_ok, variable_ok, variable_err}
+use Rattle.setphase_core.proofs.Writings.{reserved_for, owner_within, assigned_ok, variable_ok, variable_err}
 
 -- What stands when so many variables were tested.
 pub record Stages (rows : List ObjectRow) (w : World) (view : List ℕ) (bs : List Binding)
@@ -109,15 +107,22 @@ module _ (rows : List ObjectRow) (w : World) (ws : List NamedAssignment) (es : L
     pub same : counts ≡ false → assign (assignments ws) w ≡ assign (assignments_of es) w →
         assign (assignments vs) w ≡ assign (assignments_of fs) w
 
-legal_last : (w : World) (ps : List Assignment) (a : Assignment) → AreLegal w ps →
-    IsLegal w a → AreLegal w (ps ++ a ∷ [])
-legal_last w [] a h new = (new, tt)
-legal_last w (q ∷ ps) a h new = (h.0, legal_last w ps a h.1 new)
+legal_entries : (w : World) (es : List Staged) →
+    ((k : ℕ) → k < length es → IsLegal w (assignment_of_entry (entry_at es k))) →
+    AreLegal w (assignments_of es)
+legal_entries w [] h = tt
+legal_entries w (e ∷ es) h = (h 0 (omega arith), legal_entries w es (λ k below. h (suc k) (omega (arith, below))))
+
+-- What is staged of a Set that is under way may be written.
+pub legal_staged : (w : World) (os : List ObjectState) (es : List Staged) (t n : ℕ) →
+    IsUnderWay w os es t n → AreLegal w (assignments_of es)
+legal_staged w os es t n u = legal_entries w es (λ k below.
+    let there = u.reserved k below in
+    record { key = there.reserved.key; value = there.reserved.value })
 
 module _ (rows : List ObjectRow) (w : World) (ws : List NamedAssignment) (es : List Staged)
     (name : List ℕ) (p : ℕ) (slot : Slot)
     (owner : IsOwnerPlace (prefixes_of rows) name (Some p))
-    (allowed : IsLegal w (record { key = slot.key; value = slot.value }))
     (takes : AreLegal w (assignments_of es))
     (staged : AreStaged rows ws es) (distinct : IsDistinct (assignments_of es))
     (known : IsKnown ws (assignments_of es)) where
@@ -134,9 +139,10 @@ module _ (rows : List ObjectRow) (w : World) (ws : List NamedAssignment) (es : L
   entries-last = map-append assignment_of_entry es (e ∷ [])
 
   pub entries_first : value_among (assignments_of es) slot.key ≡ None →
+      AreLegal w (assignments_of (es ++ e ∷ [])) →
       Entries rows w ws es (ws ++ x ∷ []) (es ++ e ∷ []) false
-  entries_first none = record {
-    legal = subst (AreLegal w) (sym entries-last) (legal_last w (assignments_of es) a takes allowed);
+  entries_first none legal = record {
+    legal = legal;
     staged = staged_first rows ws es x staged e (known slot.key ∙ ap is_some none) refl refl owner;
     distinct = subst IsDistinct (sym entries-last) (distinct_last (assignments_of es) a distinct none);
     known = subst (IsKnown (ws ++ x ∷ [])) (sym entries-last) (known_first ws (assignments_of es) x known);
@@ -169,17 +175,18 @@ module _ (rows : List ObjectRow) (w : World) (ws : List NamedAssignment) (es : L
 
   pub entries_by : (st : Standing) →
       st ≡ standing_by (value_among (assignments_of es) slot.key) slot.value →
+      AreLegal w (assignments_of (staged_by st es e)) →
       Entries rows w ws es (ws ++ x ∷ []) (staged_by st es e) (is_contradicting st)
-  entries_by First is = entries_first (is_first (value_among (assignments_of es) slot.key) slot.value (sym is))
-  entries_by Repeats is =
+  entries_by First is legal = entries_first (is_first (value_among (assignments_of es) slot.key) slot.value (sym is)) legal
+  entries_by Repeats is legal =
       let gives = is_repeated (value_among (assignments_of es) slot.key) slot.value (sym is) in
       entries_again false (ap is_some gives) (λ none. gives)
-  entries_by Contradicts is =
+  entries_by Contradicts is legal =
       entries_again true (is_contradicted (value_among (assignments_of es) slot.key) slot.value (sym is)) (λ none. absurd (cc))
 
 module _ (rows : List ObjectRow) (w : World) (view : List ℕ) (bs : List Binding)
     (os ns : List ObjectState) (es fs : List Staged) (c t : Option ℕ) (i : ℕ) (d : Binding)
-    (v : TestedVariable) (sound : IsSound w)
+    (v : TestedVariable) (legal : AreLegal w (assignments_of fs))
     (below : i < length bs) (before : Stages rows w view bs os es c t i)
     (passed : IsPassed os ns w view i (get_or bs i d) es fs v) where
   abbrev b : Binding
@@ -212,16 +219,18 @@ module _ (rows : List ObjectRow) (w : World) (view : List ℕ) (bs : List Bindin
 
   entries : Entries rows w before.earlier es (before.earlier ++ written_now ∷ []) fs (is_contradicting v.standing)
   entries =
-      subst (λ zs. Entries rows w before.earlier es (before.earlier ++ written_now ∷ []) zs (is_contradicting v.standing)) (sym (passed.at.staged ∙ ap (λ n. staged_by v.standing es (record { object = passed.place; slot = passed.slot; number = n })) number))
+      subst (λ zs. Entries rows w before.earlier es (before.earlier ++ written_now ∷ []) zs (is_contradicting v.standing)) (sym staged_now)
       (entries_by rows w before.earlier es b.name passed.place passed.slot
       (subst (λ rs. IsOwnerPlace (prefixes_of rs) b.name (Some passed.place)) before.kept passed.at.owner)
-      (legal (object_at os passed.place).row.column w (drop (length (object_at os passed.place).row.prefix) b.name) b.value _ sound (within_ok w (assignments_in (object_at os passed.place).reserved) _ _ (placed_ok _ (object_at os passed.place).reserved passed.slot passed.at.answer).assigned))
       before.legal
       before.staged before.distinct before.known
-      v.standing passed.at.standing)
+      v.standing passed.at.standing (subst (λ zs. AreLegal w (assignments_of zs)) staged_now legal))
     where
       number : i + 1 ≡ suc (length before.earlier)
       number = omega (arith, before.count)
+
+      staged_now : fs ≡ staged_by v.standing es (record { object = passed.place; slot = passed.slot; number = suc (length before.earlier) })
+      staged_now = passed.at.staged ∙ ap (λ n. staged_by v.standing es (record { object = passed.place; slot = passed.slot; number = n })) number
 
   contradicts_same : c ≡ None →
       is_contradicting v.standing ≡ contradicts (assignments before.earlier) written_now.assignment

@@ -171,8 +171,6 @@ fn stage_all<O: MibObject, const PLACES: usize>(
     ensures passed { IfOk result (λ joint. ArePassed (rows_of staging.old.registry.now) world.now
         view.now bindings.now staging.new.staged.items joint.contradiction joint.timer) }
 {
-    let _ports = world.bridge.ports();
-    world.bridge.known_statics();
     let mut joint = Joint {
         contradiction: None,
         timer: None,

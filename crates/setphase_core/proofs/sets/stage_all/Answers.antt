@@ -1,9 +1,9 @@
-use Rattle.std.proofs.Common.{◌∙◌, refl, sym, ap, subst, arith, add-one, cond, map, [], ◌∷◌, Some, None, ◌+◌, ℕ}
+use Rattle.std.proofs.Common.{◌∙◌, refl, sym, ap, subst, add-one, cond, map, [], ◌∷◌, Some, None, ◌+◌, ℕ}
 use Rattle.setphase_core.specs.Objects.{object_after_release}
 use Rattle.setphase_core.specs.Registry.{rows_of}
 use Rattle.setphase_core.specs.Together.{is_timer}
 use Rattle.setphase_core.specs.Tested.{first_in, is_contradicting, IsFaulty, IsPassed}
-use Rattle.setphase_core.proofs.Stages.{Stages, stages_begin, stage_step, stage_refused}
+use Rattle.setphase_core.proofs.Stages.{Stages, legal_staged, stages_begin, stage_step, stage_refused}
 use Rattle.setphase_core.proofs.States.{reserved-released}
 use Rattle.setphase_core.proofs.sets.stage_all.Goals as goal
 
@@ -32,7 +32,7 @@ loop-i-preserved g c =
     = subst (λ b. IsPassed c.loop-i.staging.registry.now c.stage.new.self.registry.now c.args.world.now c.args.view.now c.loop-i.i b c.loop-i.staging.staged.items c.stage.new.self.staged.items c.in-Ok.variable) c.index-bindings-i.is
     (subst (λ n. IsPassed c.loop-i.staging.registry.now c.stage.new.self.registry.now c.args.world.now c.args.view.now n c.index-bindings-i.result c.loop-i.staging.staged.items c.stage.new.self.staged.items c.in-Ok.variable) i.tested c.in-Ok.ensures.passed) in
     let after = stage_step (rows_of c.args.staging.now.registry.now) c.args.world.now c.args.view.now c.args.bindings.now c.loop-i.staging.registry.now c.stage.new.self.registry.now c.loop-i.staging.staged.items c.stage.new.self.staged.items c.loop-i.joint.contradiction c.loop-i.joint.timer c.loop-i.i c.index-bindings-i.result c.in-Ok.variable
-    (record { even = omega (arith, c.ports-ports.ensures.count, c.ports-ports.ensures.set); statics = c.known_statics.ensures }) c.loop-i-test.true i.stages passed in
+    (legal_staged c.args.world.now c.stage.new.self.registry.now c.stage.new.self.staged.items c.stage.new.self.tested c.stage.new.self.committed c.stage.ensures.under_way) c.loop-i-test.true i.stages passed in
     record {
       under_way = c.stage.ensures.under_way;
       same_reference = c.stage.ensures.same_reference ∙ i.same_reference;
