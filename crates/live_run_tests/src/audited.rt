@@ -1,55 +1,15 @@
-//! The lines of audits: kept in memory beside a run, offered to a queue, and written.
-use crate::fixtures::message::Held::Null;
-use crate::fixtures::message::{get, of};
-use crate::fixtures::names::PRIORITY;
-use crate::support::{MANAGER, asking, lines_under, of_edges, peer, run};
+//! The lines of audits: offered to a queue, and written.
+use crate::support::{MANAGER, peer};
 use audit_core::{Audit, DeniedBindings, Unrestored};
 use decision::Decision;
-use live_agent::{AnsweredRequest, Gate, Gated};
-use live_audit::{
-    AuditBacklog, MAX_WAITING_LINES, QueuedAudits, RecordedAudits, audit_queue, write_audits,
-};
+use live_agent::{AnsweredRequest, Gate};
+use live_audit::{AuditBacklog, MAX_WAITING_LINES, QueuedAudits, audit_queue, write_audits};
 use message_core::{ErrorStatus, Kind};
 use std::alloc::Global;
 use std::io;
 use std::io::{ErrorKind, Write};
 use std::sync::Wait;
 use std::test::Fail;
-use wire_core::MemoryWire;
-
-// What stands behind the number in a line.
-fn behind_number(line: &str) -> &str {
-    match line.split_once(' ') {
-        Some((_, rest)) => rest,
-        None => "",
-    }
-}
-
-#[test]
-fn a_record_has_a_line_of_each_entry(rt: HostRuntime) -> Result<(), Fail> {
-    let alloc = rt.alloc();
-    let asked = [(PRIORITY, Null)];
-    let wire = asking(alloc, &[get(&asked), of("nobody", get(&asked))])?;
-    let mut workers = Vec::new(alloc);
-    workers.push(Gated {
-        wire,
-        gate: RecordedAudits::new(alloc),
-    })?;
-    let lines = lines_under(alloc, workers, MemoryWire::new(alloc), 0)?;
-    let (lines, _, _) = run(&rt, alloc, 10, of_edges(alloc)?, lines)?;
-    let worker = lines.workers.first().ok_or("a worker")?;
-    let mut kept = worker.gate.lines().ok_or("memory")?.lines();
-    assert_eq!(rt;
-        kept.next().map(behind_number),
-        Some("127.0.0.1:30001 1 get 0 0 ok access(readers,,2,1) view bridge")
-    );
-    assert_eq!(rt;
-        kept.next().map(behind_number),
-        Some("127.0.0.1:30001 1 get drop unknownCommunity")
-    );
-    assert_eq!(rt; kept.next(), None);
-    Ok(())
-}
 
 // The audit of a request that has no variable bindings.
 fn audit_of_nothing(alloc: Global) -> Audit {

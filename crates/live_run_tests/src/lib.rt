@@ -33,8 +33,6 @@ mod histories;
 #[cfg(test)]
 mod laps;
 #[cfg(test)]
-mod lending;
-#[cfg(test)]
 mod replayed;
 #[cfg(test)]
 mod rows;

@@ -111,58 +111,139 @@ fn lines_go_on_until_they_are_closed(rt: HostRuntime) -> Result<(), Fail> {
     Ok(())
 }
 
-// The worker's first receive fails, or its third reply, which is in its second interval: it may not
-// wait and ends, and the others go on.
-#[test]
-fn lines_go_on_beside_one_that_fails(rt: HostRuntime) -> Result<(), Fail> {
-    let (ends, entries, reported) = failed_at(&rt, rt.alloc(), 1)?;
-    assert_eq!(rt; ends, Some((RECEIVE, End::Closed, End::Closed)));
-    assert_eq!(rt;
-        (entries, reported.laps, reported.totals),
-        (4, 2, totals(4, 0, 0))
-    );
-    assert_eq!(rt; ends_reported(&reported), (Some(RECEIVE), CLOSED, CLOSED));
-    assert_eq!(rt;
-        (reported.worker_fault, reported.port_fault),
-        (Some((RECEIVE, 1)), None)
-    );
-    let (ends, entries, reported) = failed_at(&rt, rt.alloc(), 6)?;
-    assert_eq!(rt; ends, Some((SEND, End::Closed, End::Closed)));
-    assert_eq!(rt;
-        (entries, reported.laps, reported.totals),
-        (7, 2, totals(7, 3, 0))
-    );
-    assert_eq!(rt; ends_reported(&reported), (Some(SEND), CLOSED, CLOSED));
-    Ok(())
+// The line whose wire fails at a call.
+#[derive(Clone, Copy, Debug, PartialEq, Eq)]
+enum FailingLine {
+    Worker,
+    Port,
+    Control,
 }
 
-// At each call at which the worker's wire fails, it goes on: five requests are entered, the link is
-// up once, and all lines end where their wires and the pace do.
-#[test]
-fn worker_goes_on_behind_a_fault(rt: HostRuntime) -> Result<(), Fail> {
-    let alloc = rt.alloc();
-    for call in 1..12 {
-        let (ends, entries, reported) = watched(&rt, alloc, 1, lines_failing(alloc, call, 0)?)?;
-        assert_eq!(rt; ends, Some((End::Closed, End::Closed, End::Closed)));
-        assert_eq!(rt; (entries, reported.totals), (9, totals(9, 5, 1)));
-        assert_eq!(rt; reported.worker_fault.map(|fault| fault.1), Some(1));
-        assert_eq!(rt; (reported.port_fault, reported.ticker_fault), (None, None));
-    }
-    Ok(())
+// Runs in which the wire of a line fails at the first call, at the last and at each between them, at none
+// where that is 0, and each line may wait so often behind a fault. A control line is there where its wire is
+// the one that fails.
+struct Case {
+    what: &'static str,
+    failing: FailingLine,
+    calls: (u64, u64),
+    waits: u64,
+    // How the worker, the port and the ticker end, how many entries there are, and how many faults of the
+    // worker, the port and the control line the watch was reported.
+    ends: Ends,
+    entries: u64,
+    faults: [u64; 3],
 }
 
-// So does the port, whose link, which was entered, is not entered again.
+const ALL_CLOSED: Ends = (End::Closed, End::Closed, End::Closed);
+
+const CASES: &[Case] = &[
+    Case {
+        what: "the others go on beside a worker that may not wait behind its first receive",
+        failing: FailingLine::Worker,
+        calls: (1, 1),
+        waits: 0,
+        ends: (RECEIVE, End::Closed, End::Closed),
+        entries: 4,
+        faults: [1, 0, 0],
+    },
+    Case {
+        what: "the same behind its third reply, which is in its second interval",
+        failing: FailingLine::Worker,
+        calls: (6, 6),
+        waits: 0,
+        ends: (SEND, End::Closed, End::Closed),
+        entries: 7,
+        faults: [1, 0, 0],
+    },
+    Case {
+        what: "a worker goes on behind a fault, and its five requests are entered",
+        failing: FailingLine::Worker,
+        calls: (1, 11),
+        waits: 1,
+        ends: ALL_CLOSED,
+        entries: 9,
+        faults: [1, 0, 0],
+    },
+    Case {
+        what: "a port goes on behind a fault, and its link is entered once",
+        failing: FailingLine::Port,
+        calls: (1, 4),
+        waits: 1,
+        ends: ALL_CLOSED,
+        entries: 9,
+        faults: [0, 1, 0],
+    },
+    Case {
+        what: "two commands are entered beside what the others enter",
+        failing: FailingLine::Control,
+        calls: (0, 0),
+        waits: 1,
+        ends: ALL_CLOSED,
+        entries: 11,
+        faults: [0, 0, 0],
+    },
+    Case {
+        what: "a control line goes on behind a fault",
+        failing: FailingLine::Control,
+        calls: (1, 7),
+        waits: 1,
+        ends: ALL_CLOSED,
+        entries: 11,
+        faults: [0, 0, 1],
+    },
+    Case {
+        what: "a control line that may not wait ends alone",
+        failing: FailingLine::Control,
+        calls: (1, 1),
+        waits: 0,
+        ends: ALL_CLOSED,
+        entries: 9,
+        faults: [0, 0, 1],
+    },
+];
+
+// The number of the call that fails on the wire of one line, where another's is to fail 0.
+fn fails_at(line: FailingLine, case: &Case, call: u64) -> u64 {
+    if line == case.failing { call } else { 0 }
+}
+
+// How many faults of a line a watch was reported.
+fn faults_of(fault: Option<(End, u64)>) -> u64 {
+    fault.map_or(0, |fault| fault.1)
+}
+
+// What comes of a case at one call.
+fn outcome<R: Threads + Wait + Clock + Sync>(
+    rt: &R,
+    alloc: Global,
+    case: &Case,
+    call: u64,
+) -> Result<(Option<Ends>, u64, [u64; 3]), Fail> {
+    let worker = fails_at(FailingLine::Worker, case, call);
+    let port = fails_at(FailingLine::Port, case, call);
+    let lines = lines_failing(alloc, worker, port)?;
+    let control = match case.failing {
+        FailingLine::Control => Some(commanding(alloc, call)?),
+        FailingLine::Worker | FailingLine::Port => None,
+    };
+    let (ends, entries, reported) = commanded(rt, alloc, case.waits, lines, control)?;
+    let faults = [
+        faults_of(reported.worker_fault),
+        faults_of(reported.port_fault),
+        faults_of(reported.control_fault),
+    ];
+    Ok((ends, entries, faults))
+}
+
 #[test]
-fn port_goes_on_behind_a_fault(rt: HostRuntime) -> Result<(), Fail> {
-    let alloc = rt.alloc();
-    for call in 1..5 {
-        let (ends, entries, reported) = watched(&rt, alloc, 1, lines_failing(alloc, 0, call)?)?;
-        assert_eq!(rt; ends, Some((End::Closed, End::Closed, End::Closed)));
-        assert_eq!(rt; (entries, reported.totals), (9, totals(9, 5, 1)));
-        assert_eq!(rt;
-            (reported.worker_fault, reported.port_fault),
-            (None, Some((RECEIVE, 1)))
-        );
+fn lines_go_on_behind_faults_and_beside_one_another(rt: HostRuntime) -> Result<(), Fail> {
+    for case in CASES {
+        let (first, last) = case.calls;
+        for call in first..=last {
+            let outcome = outcome(&rt, rt.alloc(), case, call)?;
+            let awaited = (Some(case.ends), case.entries, case.faults);
+            assert_eq!(rt; outcome, awaited, "{}: {call}", case.what);
+        }
     }
     Ok(())
 }
@@ -185,35 +266,5 @@ fn broken_lines_end_with_their_pace(rt: HostRuntime) -> Result<(), Fail> {
             (Some(RECEIVE), Some(RECEIVE), CLOSED)
         );
     }
-    Ok(())
-}
-
-// At each call at which the control wire fails, or at none, its line goes on: its two links are entered
-// beside what the others enter, and it ends where its wire does.
-#[test]
-fn commands_are_done_beside_the_others(rt: HostRuntime) -> Result<(), Fail> {
-    let alloc = rt.alloc();
-    for call in 0..8 {
-        let lines = lines_failing(alloc, 0, 0)?;
-        let control = Some(commanding(alloc, call)?);
-        let (ends, entries, reported) = commanded(&rt, alloc, 1, lines, control)?;
-        assert_eq!(rt; ends, Some((End::Closed, End::Closed, End::Closed)));
-        assert_eq!(rt; (entries, reported.control), (11, CLOSED));
-        let faults = reported.control_fault.map(|fault| fault.1);
-        assert_eq!(rt; faults, if call == 0 { None } else { Some(1) });
-        assert_eq!(rt; (reported.worker_fault, reported.port_fault), (None, None));
-    }
-    Ok(())
-}
-
-// A control line that may not wait ends with the fault of its wire, and the others go on.
-#[test]
-fn control_line_that_fails_ends_alone(rt: HostRuntime) -> Result<(), Fail> {
-    let alloc = rt.alloc();
-    let lines = lines_failing(alloc, 0, 0)?;
-    let control = Some(commanding(alloc, 1)?);
-    let (ends, entries, reported) = commanded(&rt, alloc, 0, lines, control)?;
-    assert_eq!(rt; ends, Some((End::Closed, End::Closed, End::Closed)));
-    assert_eq!(rt; (entries, reported.control), (9, Some(RECEIVE)));
     Ok(())
 }
