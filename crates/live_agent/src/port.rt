@@ -3,13 +3,12 @@ ghost use Rattle.std.specs.Prelude.{◌≡◌, ◌+◌, ◌<◌, ◌++◌, ◌�
 ghost use Rattle.frame_core.specs.Frames.{IsFrame};
 ghost use Rattle.history_core.specs.declared.event.Event.TheVariants as event;
 ghost use Rattle.wire_core.specs.Acts.{got};
-ghost use Rattle.live_agent.specs.Lines.{run_start_of, IsPortTurn, HasLinked, HasPortRun, EndsPortShort, end_after_link, frame_space};
+ghost use Rattle.live_agent.specs.Lines.{run_start_of, IsPortTurn, HasLinked, HasPortRun, EndsPortShort, end_after_link, egress_of, frame_space};
 ghost use Rattle.live_agent.specs.Runs.{HasTurned, HasRun, EndsShort, failures_at, failures_by};
 ghost use Rattle.live_agent.specs.Turns.{acts_of};
 ghost use Rattle.live_sending.specs.Sending.{fault_in};
 
 use crate::line_state::{LineState, item_of, noted};
-use crate::outgoing::{send_forwarded, send_ports};
 use crate::plan::Plan;
 use crate::recorder::Recorder;
 use crate::trace::{End, InputFault, Item};
@@ -17,6 +16,7 @@ use agent_core::Buffer;
 use frame_core::{MAX_FRAME_LEN, read_frame};
 use history_core::Applied;
 use live_lock::{Live, Run, Share};
+use live_sending::{Delivery, send_outgoing};
 use setphase_core::MibObject;
 use std::net::SocketAddr;
 use std::sync::Wait;
@@ -101,7 +101,9 @@ fn bring_up<O: MibObject, L: Run, W: Wire, K: Recorder, R: Wait>(
     ensures parts { share.new.parts ≡ share.old.parts }
 {
     let applied = live.link(rt, plan.alloc, share, port, true, &mut state.buffer);
-    let sent = send_ports(wire, plan, &state.buffer);
+    let peers = plan.peers.as_slice();
+    let bpdus = state.buffer.bpdus();
+    let sent = send_outgoing(wire, plan.source, peers, Delivery::Nothing, bpdus);
     let ends = end_after_link(&applied, sent);
     state.recorder.record(item_of(applied));
     ends
@@ -252,6 +254,20 @@ fn take_frame<O: MibObject, L: Run, W: Wire, K: Recorder, R: Wait>(
         }
     };
     let applied = live.frame(rt, plan.alloc, share, port, frame, &mut state.buffer);
-    let sent = send_forwarded(wire, plan, &applied, octets, &state.buffer);
+    let forwarded = Delivery::Frame(egress_of(&applied), octets);
+    let peers = plan.peers.as_slice();
+    let bpdus = state.buffer.bpdus();
+    let sent = send_outgoing(wire, plan.source, peers, forwarded, bpdus);
     noted(&mut state.recorder, applied, sent)
+}
+
+// The ports by which an event's frame goes out.
+fn egress_of(applied: &Applied) -> &[u16]
+    ensures { result.now ≡ egress_of applied.now }
+{
+    match applied {
+        Applied::Done(receipt, _) => receipt.egress.as_slice(),
+        Applied::Dropped(receipt, _, _) => receipt.egress.as_slice(),
+        Applied::Short(_) | Applied::HistoryFull(_) => &[],
+    }
 }

@@ -11,7 +11,6 @@ ghost use Rattle.live_agent.specs.Turns.{entered_in};
 
 use crate::gate::{AnsweredRequest, GatedWire};
 use crate::line_state::{LineState, noted};
-use crate::outgoing::send_answer;
 use crate::plan::Plan;
 use crate::recorder::Recorder;
 use crate::trace::{End, InputFault, Item};
@@ -19,6 +18,7 @@ use agent_core::Buffer;
 use audit_core::Audit;
 use history_core::{Applied, Receipt};
 use live_lock::{Live, Run, Share};
+use live_sending::{Delivery, send_outgoing};
 use message_core::{MAX_REQUEST, Request, decode};
 use setphase_core::MibObject;
 use std::net::SocketAddr;
@@ -162,7 +162,10 @@ fn take_datagram<O: MibObject, L: Run, W: GatedWire, K: Recorder, R: Wait>(
     let request_id = request.id;
     wire.before(rt, worker);
     let applied = live.request(rt, plan.alloc, share, request, &mut state.buffer);
-    let sent = send_answer(wire, plan, peer, &state.buffer);
+    let reply = Delivery::Reply(peer, state.buffer.reply());
+    let peers = plan.peers.as_slice();
+    let bpdus = state.buffer.bpdus();
+    let sent = send_outgoing(wire, plan.source, peers, reply, bpdus);
     visit_behind(rt, wire, worker, peer, request_id, audited_of(&applied));
     noted(&mut state.recorder, applied, sent)
 }
