@@ -14,7 +14,7 @@ returns-clause-linked g c =
     let s = rw (c.bpdus-bpdus.ensures, c.as_slice-peers.ensures.value) at c.send_outgoing-sent.ensures.sends in
     let t = c.link-applied.ensures in
     record {
-      happening = happening (event.Link c.args.port true) c.args.share.now.amount c.link-applied.result c.link-applied.new.buffer (fault_in c.send_outgoing-sent.result) s.0;
+      happening = happening (event.Link c.args.line.now.port true) c.args.share.now.amount c.link-applied.result c.link-applied.new.buffer (fault_in c.send_outgoing-sent.result) s.0;
       happens = record { event_is = refl; place = t.place; reported = t.reported; sent = s.2 };
       behind = omega arith;
       acts = s.1;

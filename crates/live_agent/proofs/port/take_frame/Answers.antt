@@ -29,7 +29,7 @@ returns-clause-turn g c = λ a went.
     let t = c.frame-applied.ensures in
     let f = c.in-Ok.frame in
     record {
-      turn = was_taken (record { space = frame_space; peer = c.args.peer; octets = c.args.octets.now }) (happening (event.Frame c.args.port f) c.args.share.now.amount c.frame-applied.result c.frame-applied.new.buffer (fault_in c.send_outgoing-sent.result) s.0);
+      turn = was_taken (record { space = frame_space; peer = c.args.peer; octets = c.args.octets.now }) (happening (event.Frame c.args.line.now.port f) c.args.share.now.amount c.frame-applied.result c.frame-applied.new.buffer (fault_in c.send_outgoing-sent.result) s.0);
       is = (refl, record { frame = f; reads = c.in-Ok.ensures.found; happens = record { event_is = refl; place = t.place; reported = t.reported; sent = s.2 } });
       behind = omega arith;
       acts = g.met.W.Wire.goes_on _ _ _ _ _ went s.1;

@@ -36,7 +36,7 @@ returns-clause-turn g c = λ a went.
       turn = was_taken (record { space = request_space; peer = c.args.peer; octets = c.args.octets.now }) (happening (event.Request r) c.args.share.now.amount c.request-applied.result c.request-applied.new.buffer (fault_in c.send_outgoing-sent.result) s.0);
       is = (refl, record { request = r; reads = c.in-Ok.ensures.request; happens = record { event_is = refl; place = t.place; reported = t.reported; sent = s.2 } });
       behind = omega arith;
-      acts = taken_deeds g.W.Wire.went g.W.GatedWire.did g.met.W.GatedWire.acts_are g.met.W.GatedWire.deeds_go_on _ _ _ _ _ c.args.worker (got request_space c.args.peer c.args.octets.now) s.0 _ went c.before-2.ensures.did s.1 (rw (c.audited_of.ensures, same) at c.visit_behind.ensures.did);
+      acts = taken_deeds g.W.Wire.went g.W.GatedWire.did g.met.W.GatedWire.acts_are g.met.W.GatedWire.deeds_go_on _ _ _ _ _ c.args.line.now.worker (got request_space c.args.peer c.args.octets.now) s.0 _ went c.before-2.ensures.did s.1 (rw (c.audited_of.ensures, same) at c.visit_behind.ensures.did);
       recorded = c.noted.ensures.recorded;
       amount_is = amount_is _ _ c.request-applied.result t.amount;
       ends_so = c.noted.ensures.ends;
