@@ -35,7 +35,6 @@
 
 mod gate;
 mod line_state;
-mod outgoing;
 mod paced;
 mod plan;
 mod port;

@@ -6,13 +6,13 @@ ghost use Rattle.live_agent.specs.Runs.{HasTurned, EndsShort, failures_at, failu
 ghost use Rattle.live_agent.specs.Turns.{acts_of};
 
 use crate::line_state::{LineState, noted};
-use crate::outgoing::send_ports;
 use crate::paced::PacedWire;
 use crate::plan::Plan;
 use crate::recorder::Recorder;
 use crate::trace::End;
 use agent_core::Buffer;
 use live_lock::{Live, Run, Share};
+use live_sending::{Delivery, send_outgoing};
 use setphase_core::MibObject;
 use std::sync::Wait;
 use wire_core::Wire;
@@ -92,6 +92,8 @@ fn tick_once<O: MibObject, L: Run, W: Wire, K: Recorder, R: Wait>(
     ensures parts { share.new.parts ≡ share.old.parts }
 {
     let applied = live.tick(rt, plan.alloc, share, &mut state.buffer);
-    let sent = send_ports(wire, plan, &state.buffer);
+    let peers = plan.peers.as_slice();
+    let bpdus = state.buffer.bpdus();
+    let sent = send_outgoing(wire, plan.source, peers, Delivery::Nothing, bpdus);
     noted(&mut state.recorder, applied, sent)
 }

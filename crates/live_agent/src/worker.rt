@@ -11,7 +11,6 @@ ghost use Rattle.live_agent.specs.Turns.{entered_in};
 
 use crate::gate::{AnsweredRequest, GatedWire};
 use crate::line_state::{LineState, noted};
-use crate::outgoing::send_answer;
 use crate::plan::Plan;
 use crate::recorder::Recorder;
 use crate::trace::{End, InputFault, Item};
@@ -19,6 +18,7 @@ use agent_core::Buffer;
 use audit_core::Audit;
 use history_core::{Applied, Receipt};
 use live_lock::{Live, Run, Share};
+use live_sending::{Delivery, send_outgoing};
 use message_core::{MAX_REQUEST, Request, decode};
 use setphase_core::MibObject;
 use std::net::SocketAddr;
@@ -27,6 +27,15 @@ use wire_core::Received;
 
 // The octets of a request's buffer: one more than it has at most, so that a longer one is seen.
 const REQUEST_SPACE: usize = MAX_REQUEST + 1;
+
+// What each function of a worker is lent: the runtime, the plan, the history and the worker's number.
+#[derive(Drop)]
+struct WorkerLine<'a, O: MibObject, L: Run, R> {
+    rt: &'a R,
+    plan: &'a Plan,
+    live: &'a Live<O, L>,
+    worker: usize,
+}
 
 /// One interval of a worker: so many receives, or until its wire is closed or fails, no number is left
 /// for an entry, or there is no memory for the next item. Each datagram that holds a request has it
@@ -49,39 +58,42 @@ pub fn worker_run<O: MibObject, L: Run, W: GatedWire, K: Recorder, R: Wait>(
     ensures failures { W.failures wire.new ≡ failures_at result.0 (W.failures wire.old) }
     ensures parts { share.new.parts ≡ share.old.parts }
 {
+    let line = WorkerLine {
+        rt,
+        plan,
+        live,
+        worker,
+    };
     let mut state = LineState {
         buffer: Buffer::new(),
         recorder,
     };
-    let end = work_rounds(rt, plan, live, share, wire, worker, &mut state);
+    let end = work_rounds(&line, share, wire, &mut state);
     let LineState { recorder, .. } = state;
     (end, recorder)
 }
 
 // The rounds of a worker, behind what was recorded before.
 fn work_rounds<O: MibObject, L: Run, W: GatedWire, K: Recorder, R: Wait>(
-    rt: &R,
-    plan: &Plan,
-    live: &Live<O, L>,
+    line: &WorkerLine<O, L, R>,
     share: &mut Share<L>,
     wire: &mut W,
-    worker: usize,
     state: &mut LineState<K>,
 ) -> End
     requires { 0 < share.old.parts }
-    ensures run { HasWorked W.did K.went (run_start_of L.start plan.now) plan.now.rounds worker
-        wire.old wire.new state.old.recorder state.new.recorder share.old.amount share.new.amount
-        result }
+    ensures run { HasWorked W.did K.went (run_start_of L.start line.now.plan.now)
+        line.now.plan.now.rounds line.now.worker wire.old wire.new state.old.recorder
+        state.new.recorder share.old.amount share.new.amount result }
     ensures memory { EndsShort K.has_space state.new.recorder result }
     ensures failures { W.failures wire.new ≡ failures_at result (W.failures wire.old) }
     ensures parts { share.new.parts ≡ share.old.parts }
 {
     let mut octets = [0u8; REQUEST_SPACE];
-    for _i in 0..plan.rounds {
+    for _i in 0..line.plan.rounds {
         if state.recorder.reserve().is_err() {
             return End::Memory;
         }
-        if let Some(end) = worker_turn(rt, plan, live, share, wire, worker, state, &mut octets) {
+        if let Some(end) = worker_turn(line, share, wire, state, &mut octets) {
             return end;
         }
     }
@@ -90,19 +102,16 @@ fn work_rounds<O: MibObject, L: Run, W: GatedWire, K: Recorder, R: Wait>(
 
 // One turn of a worker, with memory for its item, and a buffer for a request.
 fn worker_turn<O: MibObject, L: Run, W: GatedWire, K: Recorder, R: Wait>(
-    rt: &R,
-    plan: &Plan,
-    live: &Live<O, L>,
+    line: &WorkerLine<O, L, R>,
     share: &mut Share<L>,
     wire: &mut W,
-    worker: usize,
     state: &mut LineState<K>,
     octets: &mut [u8; REQUEST_SPACE],
 ) -> Option<End>
     requires part { 0 < share.old.parts }
     requires space { K.has_space state.old.recorder }
-    ensures turn { HasTurned W.did K.went (worker_deeds worker)
-        (IsWorkerTurn (run_start_of L.start plan.now))
+    ensures turn { HasTurned W.did K.went (worker_deeds line.now.worker)
+        (IsWorkerTurn (run_start_of L.start line.now.plan.now))
         wire.old wire.new state.old.recorder state.new.recorder
         share.old.amount share.new.amount result }
     ensures failures { W.failures wire.new ≡ failures_by result (W.failures wire.old) }
@@ -113,29 +122,16 @@ fn worker_turn<O: MibObject, L: Run, W: GatedWire, K: Recorder, R: Wait>(
         Ok(Received::Nothing) => None,
         Ok(Received::Closed) => Some(End::Closed),
         Ok(Received::Datagram(len, peer)) => {
-            take_datagram(
-                rt,
-                plan,
-                live,
-                share,
-                wire,
-                worker,
-                state,
-                peer,
-                &octets[..len],
-            )
+            take_datagram(line, share, wire, state, peer, &octets[..len])
         }
     }
 }
 
 // A datagram came, with memory for its item.
 fn take_datagram<O: MibObject, L: Run, W: GatedWire, K: Recorder, R: Wait>(
-    rt: &R,
-    plan: &Plan,
-    live: &Live<O, L>,
+    line: &WorkerLine<O, L, R>,
     share: &mut Share<L>,
     wire: &mut W,
-    worker: usize,
     state: &mut LineState<K>,
     peer: SocketAddr,
     octets: &[u8],
@@ -143,14 +139,14 @@ fn take_datagram<O: MibObject, L: Run, W: GatedWire, K: Recorder, R: Wait>(
     requires part { 0 < share.old.parts }
     requires space { K.has_space state.old.recorder }
     ensures turn { (a : W) → W.went a (got request_space peer octets.now ∷ []) wire.old →
-        HasTurned W.did K.went (worker_deeds worker)
-        (IsWorkerTurn (run_start_of L.start plan.now))
+        HasTurned W.did K.went (worker_deeds line.now.worker)
+        (IsWorkerTurn (run_start_of L.start line.now.plan.now))
         a wire.new state.old.recorder state.new.recorder
         share.old.amount share.new.amount result }
     ensures failures { W.failures wire.new ≡ failures_by result (W.failures wire.old) }
     ensures parts { share.new.parts ≡ share.old.parts }
 {
-    let request = match decode(plan.alloc, octets) {
+    let request = match decode(line.plan.alloc, octets) {
         Ok(request) => request,
         Err(cause) => {
             state
@@ -160,10 +156,20 @@ fn take_datagram<O: MibObject, L: Run, W: GatedWire, K: Recorder, R: Wait>(
         }
     };
     let request_id = request.id;
-    wire.before(rt, worker);
-    let applied = live.request(rt, plan.alloc, share, request, &mut state.buffer);
-    let sent = send_answer(wire, plan, peer, &state.buffer);
-    visit_behind(rt, wire, worker, peer, request_id, audited_of(&applied));
+    wire.before(line.rt, line.worker);
+    let applied = line.live.request(line.rt, line.plan.alloc, share, request, &mut state.buffer);
+    let reply = Delivery::Reply(peer, state.buffer.reply());
+    let peers = line.plan.peers.as_slice();
+    let bpdus = state.buffer.bpdus();
+    let sent = send_outgoing(wire, line.plan.source, peers, reply, bpdus);
+    visit_behind(
+        line.rt,
+        wire,
+        line.worker,
+        peer,
+        request_id,
+        audited_of(&applied),
+    );
     noted(&mut state.recorder, applied, sent)
 }
 

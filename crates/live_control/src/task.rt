@@ -18,7 +18,7 @@ use control_text::{Command, MAX_COMMAND, read_command, say_counts, say_refusal};
 use history_core::Applied;
 use live_agent::{End, Plan};
 use live_lock::{Counts, Live, Run, Share};
-use live_sending::send_bpdus;
+use live_sending::{Delivery, send_outgoing};
 use setphase_core::MibObject;
 use std::alloc::{AllocError, Global};
 use std::net::SocketAddr;
@@ -209,19 +209,10 @@ fn finish<W: ControlWire, K: ControlRecorder>(
         state.old.buffer.bpdus wire.old wire.new result }
     ensures recorded { K.went state.old.recorder (item_of applied ∷ []) state.new.recorder }
 {
-    let sent = send_bpdus(
-        wire,
-        plan.source,
-        plan.peers.as_slice(),
-        state.buffer.bpdus(),
-    );
-    let text = answer_to(
-        plan.alloc,
-        plan.source,
-        first,
-        &applied,
-        state.buffer.bpdus(),
-    );
+    let peers = plan.peers.as_slice();
+    let bpdus = state.buffer.bpdus();
+    let sent = send_outgoing(wire, plan.source, peers, Delivery::Nothing, bpdus);
+    let text = answer_to(plan.alloc, plan.source, first, &applied, bpdus);
     let answered = send_text(wire, peer, &text);
     let ends = end_after(&applied, sent, answered);
     state.recorder.record(item_of(applied));

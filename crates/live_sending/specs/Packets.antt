@@ -6,6 +6,8 @@ use Rattle.frame_core.specs.Sending.{frame_octets}
 use Rattle.frame_core.specs.declared.bpdu.Bpdu.{Bpdu}
 use Rattle.frame_core.specs.declared.mac.Mac.{Mac}
 use Rattle.wire_core.specs.declared.wire.Packet.{Packet}
+use Rattle.live_sending.specs.declared.sending.Delivery.{Delivery}
+use Rattle.live_sending.specs.declared.sending.Delivery.TheVariants.{Nothing, Reply, Frame}
 
 -- The peer of a port. Ports are numbered from 1, and so are the peers.
 abbrev pub peer_of : List SocketAddr → ℕ → Option SocketAddr
@@ -41,3 +43,14 @@ bpdu_packets_from source peers port (bpdu ∷ bpdus) =
 
 abbrev pub bpdu_packets : Mac → List SocketAddr → List (Option Bpdu) → List Packet
 bpdu_packets source peers bpdus = bpdu_packets_from source peers 1 bpdus
+
+-- A reply to the peer that asked, or a frame by its ports.
+abbrev pub delivery_packets : List SocketAddr → Delivery → List Packet
+delivery_packets peers Nothing = []
+delivery_packets peers (Reply peer octets) = reply_packets peer octets.now
+delivery_packets peers (Frame ports octets) = frame_packets peers ports.now octets.now
+
+-- What an event gives to send: its reply or its frame, and then what the ports send.
+abbrev pub outgoing_packets : Mac → List SocketAddr → Delivery → List (Option Bpdu) → List Packet
+outgoing_packets source peers delivery bpdus =
+    delivery_packets peers delivery ++ bpdu_packets source peers bpdus

@@ -2,7 +2,8 @@
 //! to the peers of the ports.
 //!
 //! # Entry points
-//! [`send_reply`], [`send_frame`] and [`send_bpdus`] send until something cannot be sent.
+//! [`send_outgoing`] sends a [`Delivery`], that is a reply, a frame or nothing, and behind it the ports'
+//! BPDUs, until something cannot be sent.
 //!
 //! # Definitions
 //! `specs/Packets.antt`: what goes to whom; `specs/Sending.antt`: packets that are sent until one
@@ -17,4 +18,4 @@
 
 mod sending;
 
-pub use sending::{send_bpdus, send_frame, send_reply};
+pub use sending::{Delivery, send_outgoing};

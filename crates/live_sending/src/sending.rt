@@ -1,11 +1,63 @@
 //! What an event gives to send, sent over a wire.
 ghost use Rattle.std.specs.Prelude.{◌≡◌, ◌++◌};
-ghost use Rattle.live_sending.specs.Packets.{peer_of, packets_to, reply_packets, frame_packets, bpdu_packets_at, bpdu_packets};
+ghost use Rattle.live_sending.specs.Packets.{peer_of, packets_to, reply_packets, frame_packets, bpdu_packets_at, bpdu_packets, delivery_packets, outgoing_packets};
 ghost use Rattle.live_sending.specs.Sending.{Sends, fault_in, failures_after};
 
 use frame_core::{Bpdu, Mac, SENT_FRAME_LEN, write_bpdu};
 use std::net::SocketAddr;
 use wire_core::{Wire, WireFault};
+
+/// What an event gives to send ahead of what the ports send.
+#[derive(Clone, Copy, Debug, PartialEq, Eq)]
+pub enum Delivery<'a> {
+    /// Nothing.
+    Nothing,
+    /// A reply to the peer that asked; an empty one is not sent.
+    Reply(SocketAddr, &'a [u8]),
+    /// A frame to the peers of these ports, in their order.
+    Frame(&'a [u16], &'a [u8]),
+}
+
+/// Sends what an event gives to send: its reply or its frame, then what the ports send, from port 1
+/// on, to their peers, until something cannot be sent.
+///
+/// # Errors
+/// That of the wire, at the first that cannot be sent.
+pub fn send_outgoing<W: Wire>(
+    wire: &mut W,
+    source: Mac,
+    peers: &[SocketAddr],
+    delivery: Delivery,
+    bpdus: &[Option<Bpdu>],
+) -> Result<(), WireFault>
+    ensures sends { Sends W.went wire.old (outgoing_packets source peers.now delivery.entry bpdus.now)
+        (fault_in result) wire.new }
+    ensures failures { W.failures wire.new ≡ failures_after (fault_in result)
+        (W.failures wire.old) }
+{
+    match send_delivery(wire, peers, delivery) {
+        Ok(()) => send_bpdus(wire, source, peers, bpdus),
+        Err(fault) => Err(fault),
+    }
+}
+
+// Sends a reply or a frame, if there is one.
+fn send_delivery<W: Wire>(
+    wire: &mut W,
+    peers: &[SocketAddr],
+    delivery: Delivery,
+) -> Result<(), WireFault>
+    ensures sends { Sends W.went wire.old (delivery_packets peers.now delivery.entry) (fault_in result)
+        wire.new }
+    ensures failures { W.failures wire.new ≡ failures_after (fault_in result)
+        (W.failures wire.old) }
+{
+    match delivery {
+        Delivery::Nothing => Ok(()),
+        Delivery::Reply(peer, octets) => send_reply(wire, peer, octets),
+        Delivery::Frame(ports, octets) => send_frame(wire, peers, ports, octets),
+    }
+}
 
 // The peer of a port, if it has one.
 fn peer_of(peers: &[SocketAddr], port: usize) -> Option<SocketAddr>
@@ -35,11 +87,8 @@ fn send_to_port<W: Wire>(
     }
 }
 
-/// Sends a reply to the peer that asked, if there is one.
-///
-/// # Errors
-/// That of the wire, where the reply cannot be sent.
-pub fn send_reply<W: Wire>(wire: &mut W, peer: SocketAddr, reply: &[u8]) -> Result<(), WireFault>
+// Sends a reply to the peer that asked, if it is not empty.
+fn send_reply<W: Wire>(wire: &mut W, peer: SocketAddr, reply: &[u8]) -> Result<(), WireFault>
     ensures sends { Sends W.went wire.old (reply_packets peer reply.now) (fault_in result)
         wire.new }
     ensures failures { W.failures wire.new ≡ failures_after (fault_in result)
@@ -51,11 +100,8 @@ pub fn send_reply<W: Wire>(wire: &mut W, peer: SocketAddr, reply: &[u8]) -> Resu
     wire.send(peer, reply)
 }
 
-/// Sends a frame to the peers of these ports, in their order, until one cannot be sent.
-///
-/// # Errors
-/// That of the wire, at the first that cannot be sent.
-pub fn send_frame<W: Wire>(
+// Sends a frame to the peers of these ports, in their order, until one cannot be sent.
+fn send_frame<W: Wire>(
     wire: &mut W,
     peers: &[SocketAddr],
     ports: &[u16],
@@ -95,11 +141,8 @@ fn send_bpdu<W: Wire>(
     }
 }
 
-/// Sends what the ports send, from port 1 on, to their peers, until something cannot be sent.
-///
-/// # Errors
-/// That of the wire, at the first that cannot be sent.
-pub fn send_bpdus<W: Wire>(
+// Sends what the ports send, from port 1 on, to their peers, until something cannot be sent.
+fn send_bpdus<W: Wire>(
     wire: &mut W,
     source: Mac,
     peers: &[SocketAddr],

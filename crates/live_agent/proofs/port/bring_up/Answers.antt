@@ -11,10 +11,10 @@ use Rattle.live_agent.proofs.port.bring_up.Goals as goal
 
 pub returns-clause-linked : goal.returns-clause-linked
 returns-clause-linked g c =
-    let s = c.send_ports-sent.ensures.sends in
+    let s = rw (c.bpdus-bpdus.ensures, c.as_slice-peers.ensures.value) at c.send_outgoing-sent.ensures.sends in
     let t = c.link-applied.ensures in
     record {
-      happening = happening (event.Link c.args.port true) c.args.share.now.amount c.link-applied.result c.link-applied.new.buffer (fault_in c.send_ports-sent.result) s.0;
+      happening = happening (event.Link c.args.line.now.port true) c.args.share.now.amount c.link-applied.result c.link-applied.new.buffer (fault_in c.send_outgoing-sent.result) s.0;
       happens = record { event_is = refl; place = t.place; reported = t.reported; sent = s.2 };
       behind = omega arith;
       acts = s.1;
@@ -24,4 +24,4 @@ returns-clause-linked g c =
     }
 
 pub returns-clause-failures : goal.returns-clause-failures
-returns-clause-failures g c = c.send_ports-sent.ensures.failures ∙ failures_linked c.link-applied.result (fault_in c.send_ports-sent.result) _ ∙ ap (λ (e : Option End). failures_by e (g.W.Wire.failures c.args.wire.now)) (sym c.end_after_link-ends.ensures)
+returns-clause-failures g c = c.send_outgoing-sent.ensures.failures ∙ failures_linked c.link-applied.result (fault_in c.send_outgoing-sent.result) _ ∙ ap (λ (e : Option End). failures_by e (g.W.Wire.failures c.args.wire.now)) (sym c.end_after_link-ends.ensures)

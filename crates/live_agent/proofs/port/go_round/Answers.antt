@@ -13,7 +13,7 @@ loop-i-init g c =
 
 pub returns-in-Some-clause-run : goal.returns-in-Some-clause-run
 returns-in-Some-clause-run g c =
-    goes_stops g.W.Wire.went g.met.W.Wire.goes_on g.K.Recorder.went g.met.K.Recorder.goes_on acts_of _ c.args.plan.now.rounds c.loop-i._i _ _ _ _ _ _ _ _ _ _ c.in-Some.end c.loop-i.invariant.goes c.reserve.ensures.unchanged c.in-Some.ensures.turn (omega arith)
+    goes_stops g.W.Wire.went g.met.W.Wire.goes_on g.K.Recorder.went g.met.K.Recorder.goes_on acts_of _ c.args.line.now.plan.now.rounds c.loop-i._i _ _ _ _ _ _ _ _ _ _ c.in-Some.end c.loop-i.invariant.goes c.reserve.ensures.unchanged c.in-Some.ensures.turn (omega arith)
 
 pub loop-i-preserved : goal.loop-i-preserved
 loop-i-preserved g c =
@@ -25,11 +25,11 @@ loop-i-preserved g c =
 
 pub returns-then-is_err-clause-run : goal.returns-then-is_err-clause-run
 returns-then-is_err-clause-run g c =
-    goes_short g.W.Wire.went g.K.Recorder.went g.met.K.Recorder.goes_on acts_of _ c.args.plan.now.rounds c.loop-i._i _ _ _ _ _ _ _ c.loop-i.invariant.goes c.reserve.ensures.unchanged (omega arith)
+    goes_short g.W.Wire.went g.K.Recorder.went g.met.K.Recorder.goes_on acts_of _ c.args.line.now.plan.now.rounds c.loop-i._i _ _ _ _ _ _ _ c.loop-i.invariant.goes c.reserve.ensures.unchanged (omega arith)
 
 pub returns-clause-run : goal.returns-clause-run
 returns-clause-run g c =
-    goes_round g.W.Wire.went g.K.Recorder.went acts_of _ c.args.plan.now.rounds c.loop-i._i _ _ _ _ _ _ c.loop-i.invariant.goes (omega arith)
+    goes_round g.W.Wire.went g.K.Recorder.went acts_of _ c.args.line.now.plan.now.rounds c.loop-i._i _ _ _ _ _ _ c.loop-i.invariant.goes (omega arith)
 
 pub returns-in-Some-clause-memory : goal.returns-in-Some-clause-memory
 returns-in-Some-clause-memory g c = λ is _.

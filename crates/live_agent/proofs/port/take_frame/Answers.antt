@@ -25,11 +25,11 @@ returns-in-Err-clause-turn g c = λ a went.
 
 pub returns-clause-turn : goal.returns-clause-turn
 returns-clause-turn g c = λ a went.
-    let s = c.send_forwarded-sent.ensures.sends in
+    let s = rw (c.bpdus-bpdus.ensures, c.as_slice-peers.ensures.value, c.egress_of.ensures) at c.send_outgoing-sent.ensures.sends in
     let t = c.frame-applied.ensures in
     let f = c.in-Ok.frame in
     record {
-      turn = was_taken (record { space = frame_space; peer = c.args.peer; octets = c.args.octets.now }) (happening (event.Frame c.args.port f) c.args.share.now.amount c.frame-applied.result c.frame-applied.new.buffer (fault_in c.send_forwarded-sent.result) s.0);
+      turn = was_taken (record { space = frame_space; peer = c.args.peer; octets = c.args.octets.now }) (happening (event.Frame c.args.line.now.port f) c.args.share.now.amount c.frame-applied.result c.frame-applied.new.buffer (fault_in c.send_outgoing-sent.result) s.0);
       is = (refl, record { frame = f; reads = c.in-Ok.ensures.found; happens = record { event_is = refl; place = t.place; reported = t.reported; sent = s.2 } });
       behind = omega arith;
       acts = g.met.W.Wire.goes_on _ _ _ _ _ went s.1;
@@ -39,4 +39,4 @@ returns-clause-turn g c = λ a went.
     }
 
 pub returns-clause-failures : goal.returns-clause-failures
-returns-clause-failures g c = c.send_forwarded-sent.ensures.failures ∙ failures_noted c.frame-applied.result (fault_in c.send_forwarded-sent.result) _ ∙ ap (λ (e : Option End). failures_by e (g.W.Wire.failures c.args.wire.now)) (sym c.noted.ensures.ends)
+returns-clause-failures g c = c.send_outgoing-sent.ensures.failures ∙ failures_noted c.frame-applied.result (fault_in c.send_outgoing-sent.result) _ ∙ ap (λ (e : Option End). failures_by e (g.W.Wire.failures c.args.wire.now)) (sym c.noted.ensures.ends)

@@ -11,10 +11,10 @@ use Rattle.live_agent.proofs.ticker.tick_once.Goals as goal
 
 pub returns-clause-turn : goal.returns-clause-turn
 returns-clause-turn g c =
-    let s = c.send_ports-sent.ensures.sends in
+    let s = rw (c.bpdus-bpdus.ensures, c.as_slice-peers.ensures.value) at c.send_outgoing-sent.ensures.sends in
     let t = c.tick-applied.ensures in
     record {
-      turn = was_own (happening event.Tick c.args.share.now.amount c.tick-applied.result c.tick-applied.new.buffer (fault_in c.send_ports-sent.result) s.0);
+      turn = was_own (happening event.Tick c.args.share.now.amount c.tick-applied.result c.tick-applied.new.buffer (fault_in c.send_outgoing-sent.result) s.0);
       is = record { event_is = refl; place = t.place; reported = t.reported; sent = s.2 };
       behind = omega arith;
       acts = s.1;
@@ -24,4 +24,4 @@ returns-clause-turn g c =
     }
 
 pub returns-clause-failures : goal.returns-clause-failures
-returns-clause-failures g c = c.send_ports-sent.ensures.failures ∙ failures_noted c.tick-applied.result (fault_in c.send_ports-sent.result) _ ∙ ap (λ (e : Option End). failures_by e (g.W.Wire.failures c.args.wire.now)) (sym c.noted.ensures.ends)
+returns-clause-failures g c = c.send_outgoing-sent.ensures.failures ∙ failures_noted c.tick-applied.result (fault_in c.send_outgoing-sent.result) _ ∙ ap (λ (e : Option End). failures_by e (g.W.Wire.failures c.args.wire.now)) (sym c.noted.ensures.ends)
