@@ -24,7 +24,7 @@ use std::alloc::{AllocError, Global};
 use std::sync::ledger::Ledger;
 use steps::Steps;
 
-// What the successors of a GetBulk are looked up in, and what gives memory for their names.
+// Where the successors of a GetBulk are searched, and what gives memory for their names.
 struct Lookup<'a, S> {
     alloc: Global,
     source: &'a S,

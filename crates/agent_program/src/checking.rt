@@ -8,7 +8,7 @@ use crate::files::NotRead;
 use configuration::{ConfigurationFault, configuration_in, sentence};
 use std::alloc::{AllocError, Global};
 use std::io::Write;
-use udp_agent::{Unserved, why_unserved};
+use udp_agent::{Unserved, setup_of};
 
 // What is stated of a configuration: by each a script can run.
 const SERVED_TEXT: &[u8] = b"configuration ok for script and serve\n";
@@ -71,8 +71,12 @@ pub fn check_octets<'a, O: Write>(
 {
     match configuration_in(alloc, octets) {
         Ok(configuration) => {
-            let why = why_unserved(configuration.ports.as_slice(), &configuration.serve);
-            write_out(ok_text(why), writer)
+            let setup = setup_of(
+                configuration.address,
+                &configuration.ports,
+                configuration.serve,
+            );
+            write_out(ok_text(setup.err()), writer)
         }
         Err(fault) => Err(report_fault(alloc, fault, writer)),
     }

@@ -51,14 +51,14 @@ pub fn open_setup(alloc: Global, octets: &[u8]) -> Result<Opened, NotRun>
     let bridge = open_bridge(alloc, &configuration);
     match setup_of(
         configuration.address,
-        configuration.ports,
+        &configuration.ports,
         configuration.serve,
     ) {
-        Some(setup) => Ok(Opened {
+        Ok(setup) => Ok(Opened {
             world: undropped(bridge, configuration.policy),
             setup,
         }),
-        None => Err(NotRun::Refused),
+        Err(_) => Err(NotRun::Refused),
     }
 }
 

@@ -1,7 +1,6 @@
 //! Tests of histories, and of runs over wires in memory: whole runs, the objects that come back from
-//! them, and lines that go on interval by interval; of the line of an
-//! audit that names all settings which may be unrestored; and of lines of audits that are kept beside
-//! a run, or offered to a queue and written.
+//! them, and lines that go on interval by interval; of the line of an audit that names all settings
+//! which may be unrestored; and of lines of audits that are offered to a queue and written.
 //!
 //! # Entry points
 //! None.

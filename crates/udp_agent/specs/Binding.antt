@@ -1,5 +1,5 @@
 -- The lines of a setup, and what they have in common.
-use Rattle.std.specs.Prelude.{◌≡◌, ℕ, ◌+◌, Bool, true, false, map, Some, vec_len, length, All}
+use Rattle.std.specs.Prelude.{◌≡◌, ℕ, ◌+◌, Bool, true, false, map, vec_len, length, All}
 use Rattle.live_agent.specs.declared.gate.Gated.{Gated}
 use Rattle.live_agent.specs.declared.plan.Plan.{Plan}
 use Rattle.live_audit.specs.Audited.{is_audited}
@@ -12,7 +12,7 @@ use Rattle.udp_agent.specs.declared.setup.Setup.{Setup}
 pub record IsPlan (setup : Setup) (plan : Plan) : Type 0 where
   pub rounds_are : plan.rounds ≡ setup.serve.rounds
   pub source_is : plan.source ≡ setup.address
-  pub peers_are : map (λ peer. Some peer) plan.peers.items ≡ map (λ port. port.peer) setup.ports.items
+  pub peers_are : plan.peers.items ≡ map (λ port. port.peer) setup.ports.items
 
 -- as many lines as a setup has: a worker for each thread that is to answer, and a line for each port
 pub record AreLines {A W T : Type 0} (setup : Setup) (lines : Lines A W T) : Type 0 where

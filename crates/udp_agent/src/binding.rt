@@ -1,9 +1,9 @@
 //! Binds the sockets of a setup.
-ghost use Rattle.std.specs.Prelude.{◌≡◌, ◌<◌, ◌≤◌, ◌-◌, ◌^◌, IfOk, map, length, Some, vec_len};
+ghost use Rattle.std.specs.Prelude.{◌≡◌, ◌<◌, ◌≤◌, ◌-◌, ◌^◌, IfOk, map, length, vec_len};
 ghost use Rattle.udp_agent.specs.Binding.{IsPlan, AreLines};
 
-use crate::setup::Setup;
-use configuration::{Port, Serve};
+use crate::setup::{PortSockets, Setup};
+use configuration::Serve;
 use live_agent::{Gated, OpenGate, Paced, Plan};
 use live_run::Lines;
 use std::alloc::Global;
@@ -37,25 +37,14 @@ fn bind_workers<R: Net>(rt: &R, alloc: Global, serve: &Serve) -> io::Result<Vec<
 }
 
 // The wires of the ports, each over a socket of its own.
-fn bind_ports<R: Net>(rt: &R, alloc: Global, ports: &[Port]) -> io::Result<Vec<UdpWire>>
+fn bind_ports<R: Net>(rt: &R, alloc: Global, ports: &[PortSockets]) -> io::Result<Vec<UdpWire>>
     ensures { IfOk result (λ wires. vec_len wires ≡ length ports.now) }
 {
     let mut wires = Vec::new(alloc);
     for port in ports {
-        let listen = address_of(port.listen)?;
-        wires.push(UdpWire::bind(rt, alloc, listen)?)?;
+        wires.push(UdpWire::bind(rt, alloc, port.listen)?)?;
     }
     Ok(wires)
-}
-
-// An address that is stated.
-pub(crate) fn address_of(stated: Option<SocketAddr>) -> io::Result<SocketAddr>
-    ensures { IfOk result (λ address. stated ≡ Some address) }
-{
-    match stated {
-        Some(address) => Ok(address),
-        None => Err(io::Error::from(ErrorKind::InvalidInput)),
-    }
 }
 
 // The wire of the ticker, over the socket of port 1.
@@ -67,13 +56,12 @@ fn share_first(ports: &[UdpWire]) -> io::Result<UdpWire> {
 }
 
 // Where the frames of each port go, from port 1 on.
-fn peers_of(alloc: Global, ports: &[Port]) -> io::Result<Vec<SocketAddr>>
-    ensures { IfOk result (λ peers. map (λ peer. Some peer) peers.items
-        ≡ map (λ port. port.peer) ports.now) }
+fn peers_of(alloc: Global, ports: &[PortSockets]) -> io::Result<Vec<SocketAddr>>
+    ensures { IfOk result (λ peers. peers.items ≡ map (λ port. port.peer) ports.now) }
 {
     let mut peers = Vec::new(alloc);
     for port in ports {
-        peers.push(address_of(port.peer)?)?;
+        peers.push(port.peer)?;
     }
     Ok(peers)
 }
@@ -81,7 +69,7 @@ fn peers_of(alloc: Global, ports: &[Port]) -> io::Result<Vec<SocketAddr>>
 /// What the lines of a setup have in common.
 ///
 /// # Errors
-/// That there is no memory for the ports' peers, or that a port has no peer.
+/// That there is no memory for the ports' peers.
 pub fn plan_of(alloc: Global, setup: &Setup) -> io::Result<Plan>
     ensures { IfOk result (IsPlan setup.now) }
 {

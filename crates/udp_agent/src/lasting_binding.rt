@@ -3,9 +3,9 @@ ghost use Rattle.std.specs.Prelude.{◌≡◌, ◌<◌, ◌-◌, ◌^◌, All, I
 ghost use Rattle.live_audit.specs.Audited.{is_audited};
 ghost use Rattle.udp_agent.specs.Binding.{AreLines, AreAudited, is_audited_worker};
 
-use crate::binding::{address_of, few};
-use crate::setup::Setup;
-use configuration::{Port, Serve};
+use crate::binding::few;
+use crate::setup::{PortSockets, Setup};
+use configuration::Serve;
 use control_socket::ControlSocket;
 use live_agent::{Gated, Paced};
 use live_audit::Auditing;
@@ -73,7 +73,7 @@ fn bind_ports<R: Net, C: Clock + Copy + Drop>(
     rt: &R,
     clock: C,
     alloc: Global,
-    ports: &[Port],
+    ports: &[PortSockets],
     sending: &Arc<SendingSockets, Global>,
     startup: &Arc<Startup, Global>,
 ) -> io::Result<Vec<LastingWire<C>>>
@@ -81,8 +81,7 @@ fn bind_ports<R: Net, C: Clock + Copy + Drop>(
 {
     let mut wires = Vec::new(alloc);
     for port in ports {
-        let listen = address_of(port.listen)?;
-        wires.push(LastingWire::bind(rt, alloc, listen, sending, startup, clock)?)?;
+        wires.push(LastingWire::bind(rt, alloc, port.listen, sending, startup, clock)?)?;
     }
     Ok(wires)
 }

@@ -2,8 +2,8 @@
 //! own.
 //!
 //! # Entry points
-//! [`Setup`] says where, and how many rounds a line makes, and [`setup_of`] makes one of what is
-//! configured; where it makes none, [`why_unserved`] says why, an [`Unserved`]. [`serve`] binds its
+//! [`Setup`] says where, each port by its [`PortSockets`], and how many rounds a line makes.
+//! [`setup_of`] makes one of what is configured, or says why there is none, an [`Unserved`]. [`serve`] binds its
 //! sockets ([`bind_lines`]) and runs its lines over a history by its plan ([`plan_of`], [`serve_lines`]), each in a thread of its own; [`log_report`] logs what
 //! they did, [`report_fault`] why there is no report, a [`ServeFault`]. [`serve_forever`] does the
 //! same without an end ([`serve_lines_forever`]), over lines of its own ([`bind_lasting`]) at which no
@@ -14,7 +14,8 @@
 //! was served.
 //!
 //! # Definitions
-//! `specs/Setups.antt`: what a setup holds; `specs/Binding.antt`: its lines, and what they have in
+//! `specs/Setups.antt`: what a setup holds, port by port, and when there is none;
+//! `specs/Binding.antt`: its lines, and what they have in
 //! common: a plan has the setup's rounds, address and peers, and the lines are a worker for each
 //! thread that is to answer and one for each port, whether all workers are audited, and how many tasks
 //! there are;
@@ -51,4 +52,4 @@ pub use losses::log_losses;
 pub use ready::log_ready;
 pub use reporting::{Reporter, log_not_begun, log_report, report_fault};
 pub use serving::{ServeFault, serve, serve_lines};
-pub use setup::{Setup, Unserved, setup_of, why_unserved};
+pub use setup::{PortSockets, Setup, Unserved, setup_of};

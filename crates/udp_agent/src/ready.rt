@@ -1,6 +1,5 @@
 //! Logs what is served, once all sockets are bound.
-use crate::setup::Setup;
-use configuration::Port;
+use crate::setup::{PortSockets, Setup};
 use frame_core::Mac;
 use log::{Log, info};
 use std::fmt;
@@ -47,19 +46,13 @@ impl Display for Served<'_> {
     }
 }
 
-// The sockets of a port, as far as they are stated.
+// The sockets of a port.
 #[derive(Drop)]
-struct Sockets<'a>(&'a Port);
+struct Sockets<'a>(&'a PortSockets);
 
 impl Display for Sockets<'_> {
     fn fmt<W: fmt::Write>(&self, f: &mut Formatter<W>) -> fmt::Result {
-        if let Some(listen) = self.0.listen {
-            write!(f, " at {}", listen)?;
-        }
-        if let Some(peer) = self.0.peer {
-            write!(f, " to {}", peer)?;
-        }
-        Ok(())
+        write!(f, " at {} to {}", self.0.listen, self.0.peer)
     }
 }
 
