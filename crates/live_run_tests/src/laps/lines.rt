@@ -127,11 +127,11 @@ struct Case {
     failing: FailingLine,
     calls: (u64, u64),
     waits: u64,
-    // How the worker, the port and the ticker end, how many entries there are, and how many faults of the
-    // worker, the port and the control line the watch was reported.
+    // How the worker, the port and the ticker end, how many entries there are, and how many faults of these
+    // three and of the control line the watch was reported.
     ends: Ends,
     entries: u64,
-    faults: [u64; 3],
+    faults: [u64; 4],
 }
 
 const ALL_CLOSED: Ends = (End::Closed, End::Closed, End::Closed);
@@ -144,7 +144,7 @@ const CASES: &[Case] = &[
         waits: 0,
         ends: (RECEIVE, End::Closed, End::Closed),
         entries: 4,
-        faults: [1, 0, 0],
+        faults: [1, 0, 0, 0],
     },
     Case {
         what: "the same behind its third reply, which is in its second interval",
@@ -153,7 +153,7 @@ const CASES: &[Case] = &[
         waits: 0,
         ends: (SEND, End::Closed, End::Closed),
         entries: 7,
-        faults: [1, 0, 0],
+        faults: [1, 0, 0, 0],
     },
     Case {
         what: "a worker goes on behind a fault, and its five requests are entered",
@@ -162,7 +162,7 @@ const CASES: &[Case] = &[
         waits: 1,
         ends: ALL_CLOSED,
         entries: 9,
-        faults: [1, 0, 0],
+        faults: [1, 0, 0, 0],
     },
     Case {
         what: "a port goes on behind a fault, and its link is entered once",
@@ -171,7 +171,7 @@ const CASES: &[Case] = &[
         waits: 1,
         ends: ALL_CLOSED,
         entries: 9,
-        faults: [0, 1, 0],
+        faults: [0, 1, 0, 0],
     },
     Case {
         what: "two commands are entered beside what the others enter",
@@ -180,7 +180,7 @@ const CASES: &[Case] = &[
         waits: 1,
         ends: ALL_CLOSED,
         entries: 11,
-        faults: [0, 0, 0],
+        faults: [0, 0, 0, 0],
     },
     Case {
         what: "a control line goes on behind a fault",
@@ -189,7 +189,7 @@ const CASES: &[Case] = &[
         waits: 1,
         ends: ALL_CLOSED,
         entries: 11,
-        faults: [0, 0, 1],
+        faults: [0, 0, 0, 1],
     },
     Case {
         what: "a control line that may not wait ends alone",
@@ -198,7 +198,7 @@ const CASES: &[Case] = &[
         waits: 0,
         ends: ALL_CLOSED,
         entries: 9,
-        faults: [0, 0, 1],
+        faults: [0, 0, 0, 1],
     },
 ];
 
@@ -218,7 +218,7 @@ fn outcome<R: Threads + Wait + Clock + Sync>(
     alloc: Global,
     case: &Case,
     call: u64,
-) -> Result<(Option<Ends>, u64, [u64; 3]), Fail> {
+) -> Result<(Option<Ends>, u64, [u64; 4]), Fail> {
     let worker = fails_at(FailingLine::Worker, case, call);
     let port = fails_at(FailingLine::Port, case, call);
     let lines = lines_failing(alloc, worker, port)?;
@@ -230,6 +230,7 @@ fn outcome<R: Threads + Wait + Clock + Sync>(
     let faults = [
         faults_of(reported.worker_fault),
         faults_of(reported.port_fault),
+        faults_of(reported.ticker_fault),
         faults_of(reported.control_fault),
     ];
     Ok((ends, entries, faults))
