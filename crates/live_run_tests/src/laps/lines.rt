@@ -93,6 +93,8 @@ fn ends_reported(reported: &Reported) -> (Option<End>, Option<End>, Option<End>)
 
 const CLOSED: Option<End> = Some(End::Closed);
 
+const ALL_CLOSED: Ends = (End::Closed, End::Closed, End::Closed);
+
 const RECEIVE: End = End::Wire(WireFault::Receive);
 
 const SEND: End = End::Wire(WireFault::Send);
@@ -102,7 +104,7 @@ const SEND: End = End::Wire(WireFault::Send);
 #[test]
 fn lines_go_on_until_they_are_closed(rt: HostRuntime) -> Result<(), Fail> {
     let (ends, entries, reported) = failed_at(&rt, rt.alloc(), 0)?;
-    assert_eq!(rt; ends, Some((End::Closed, End::Closed, End::Closed)));
+    assert_eq!(rt; ends, Some(ALL_CLOSED));
     assert_eq!(rt;
         (entries, reported.laps, reported.totals),
         (9, 2, totals(9, 5, 1))
@@ -127,14 +129,13 @@ struct Case {
     failing: FailingLine,
     calls: (u64, u64),
     waits: u64,
-    // How the worker, the port and the ticker end, how many entries there are, and how many faults of these
-    // three and of the control line the watch was reported.
+    // How the worker, the port and the ticker end; how the control line ends, if there is one; how many
+    // entries there are, and how many faults of all four the watch was reported.
     ends: Ends,
+    control: Option<End>,
     entries: u64,
     faults: [u64; 4],
 }
-
-const ALL_CLOSED: Ends = (End::Closed, End::Closed, End::Closed);
 
 const CASES: &[Case] = &[
     Case {
@@ -143,6 +144,7 @@ const CASES: &[Case] = &[
         calls: (1, 1),
         waits: 0,
         ends: (RECEIVE, End::Closed, End::Closed),
+        control: None,
         entries: 4,
         faults: [1, 0, 0, 0],
     },
@@ -152,6 +154,7 @@ const CASES: &[Case] = &[
         calls: (6, 6),
         waits: 0,
         ends: (SEND, End::Closed, End::Closed),
+        control: None,
         entries: 7,
         faults: [1, 0, 0, 0],
     },
@@ -161,6 +164,7 @@ const CASES: &[Case] = &[
         calls: (1, 11),
         waits: 1,
         ends: ALL_CLOSED,
+        control: None,
         entries: 9,
         faults: [1, 0, 0, 0],
     },
@@ -170,6 +174,7 @@ const CASES: &[Case] = &[
         calls: (1, 4),
         waits: 1,
         ends: ALL_CLOSED,
+        control: None,
         entries: 9,
         faults: [0, 1, 0, 0],
     },
@@ -179,6 +184,7 @@ const CASES: &[Case] = &[
         calls: (0, 0),
         waits: 1,
         ends: ALL_CLOSED,
+        control: CLOSED,
         entries: 11,
         faults: [0, 0, 0, 0],
     },
@@ -188,6 +194,7 @@ const CASES: &[Case] = &[
         calls: (1, 7),
         waits: 1,
         ends: ALL_CLOSED,
+        control: CLOSED,
         entries: 11,
         faults: [0, 0, 0, 1],
     },
@@ -197,6 +204,7 @@ const CASES: &[Case] = &[
         calls: (1, 1),
         waits: 0,
         ends: ALL_CLOSED,
+        control: Some(RECEIVE),
         entries: 9,
         faults: [0, 0, 0, 1],
     },
@@ -218,7 +226,7 @@ fn outcome<R: Threads + Wait + Clock + Sync>(
     alloc: Global,
     case: &Case,
     call: u64,
-) -> Result<(Option<Ends>, u64, [u64; 4]), Fail> {
+) -> Result<(Option<Ends>, Option<End>, u64, [u64; 4]), Fail> {
     let worker = fails_at(FailingLine::Worker, case, call);
     let port = fails_at(FailingLine::Port, case, call);
     let lines = lines_failing(alloc, worker, port)?;
@@ -233,7 +241,7 @@ fn outcome<R: Threads + Wait + Clock + Sync>(
         faults_of(reported.ticker_fault),
         faults_of(reported.control_fault),
     ];
-    Ok((ends, entries, faults))
+    Ok((ends, reported.control, entries, faults))
 }
 
 #[test]
@@ -242,7 +250,7 @@ fn lines_go_on_behind_faults_and_beside_one_another(rt: HostRuntime) -> Result<(
         let (first, last) = case.calls;
         for call in first..=last {
             let outcome = outcome(&rt, rt.alloc(), case, call)?;
-            let awaited = (Some(case.ends), case.entries, case.faults);
+            let awaited = (Some(case.ends), case.control, case.entries, case.faults);
             assert_eq!(rt; outcome, awaited, "{}: {call}", case.what);
         }
     }
