@@ -24,6 +24,23 @@ fn put_coded(out: &mut Out<'_>, number: u64) -> Result<(), BerFault>
     Ok(())
 }
 
+/// Writes the last numbers that have one octet each into the places that they have in a slice of as
+/// many octets, and says how many numbers are in front of them.
+fn put_tail(octets: &mut [u8], numbers: &[u32]) -> usize
+    requires { length octets.old ≡ length numbers.now }
+    ensures octets { drop result octets.new ≡ flat_map canon_coded (drop result numbers.now) }
+    ensures front { take result octets.new ≡ take result octets.old }
+    ensures len { length octets.new ≡ length octets.old }
+    ensures within { result ≤ length numbers.now }
+{
+    let mut left = numbers.len();
+    while left > 0 && numbers[left - 1] < 128 {
+        left -= 1;
+        octets[left] = numbers[left] as u8;
+    }
+    left
+}
+
 /// Writes the last numbers of a name that have one octet each, as far as there is space, into a
 /// slice in front of `start`, and says how many. The first two numbers are left.
 fn put_short(space: &mut [u8], start: usize, name: &[u32]) -> usize
@@ -36,12 +53,9 @@ fn put_short(space: &mut [u8], start: usize, name: &[u32]) -> usize
     ensures within { result ≤ start }
     ensures most { result + 2 ≤ length name.now }
 {
-    let mut count = 0;
-    while count < start && count + 2 < name.len() && name[name.len() - count - 1] < 128 {
-        count += 1;
-        space[start - count] = name[name.len() - count] as u8;
-    }
-    count
+    let most = start.min(name.len() - 2);
+    let numbers = &name[name.len() - most..];
+    most - put_tail(&mut space[start - most..start], numbers)
 }
 
 /// Writes the last numbers of a name that have one octet each, as far as there is space, and says
