@@ -22,6 +22,7 @@ const MAX_UNSIGNED: usize = 9;
 
 // The octets of a coded number: one for each group of seven bits, and one for 0 (X.690, 8.19.2).
 #[tactic(auto, using(crate::proofs::Counted::coded_1, crate::proofs::Counted::coded_2, crate::proofs::Counted::coded_3, crate::proofs::Counted::coded_4, crate::proofs::Counted::coded_5))]
+#[inline]
 fn coded_len(number: u64) -> usize
     requires { number < 2 ^ 35 }
     ensures len { result ≡ length (canon_coded number) }
@@ -46,10 +47,11 @@ fn numbers_len(numbers: &[u32]) -> usize
     ensures len { result ≡ length (flat_map canon_coded numbers.now) }
     ensures most { result ≤ MAX_CODED * length numbers.now }
 {
-    match numbers.split_first() {
-        None => 0,
-        Some((number, others)) => coded_len(u64::from(*number)) + numbers_len(others),
+    let mut len = 0;
+    for number in numbers {
+        len += coded_len(u64::from(*number));
     }
+    len
 }
 
 /// The octets of the content of an OBJECT IDENTIFIER (X.690, 8.19), of a name of at most
