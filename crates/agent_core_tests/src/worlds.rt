@@ -1,97 +1,95 @@
-//! A world whose community `public` sees all.
+//! Worlds made by hand.
 ghost use Rattle.std.specs.Prelude.{◌≤◌};
 
 use bridge_core::Bridge;
-use community_core::{Policy, WrittenCommunity};
+use bridge_mib::Steady;
 use frame_core::Mac;
-use oid_core::Oid;
+use object_list::{Object, objects};
+use policy_text::policy_in;
 use rstp_core::{IfIndex, PortConfig};
-use setphase_core::World;
+use setphase_core::{MibObject, Registry, World};
 use std::alloc::Global;
 use std::test::Fail;
-use vacm_core::{Octets, Rows, Text, Vacm, VacmRows, WrittenAccess, WrittenFamily, WrittenGroup};
 
 const OWN: Mac = Mac([0x02, 0x00, 0x00, 0x00, 0x00, 0x0A]);
 
-// The community `public`, of the security name `public`.
-fn community(alloc: Global) -> Result<WrittenCommunity, Fail> {
-    Ok(WrittenCommunity {
-        index: Text::new(alloc, "p")?,
-        name: Text::new(alloc, "public")?,
-        security: Text::new(alloc, "public")?,
-        context: Text::new(alloc, "")?,
-    })
-}
+// A policy of one view, `all`, of all of the bridge.
+const ALL_SEEN: &str = r#"contexts = []
+community = []
+group = []
+access = []
+[[family]]
+view = "all"
+subtree = "1.3.6.1.2.1.17"
+mask = ""
+included = true
+"#;
 
-// The group of that name, under SNMPv2c, security model 2 (RFC 3411, SnmpSecurityModel).
-fn group(alloc: Global) -> Result<WrittenGroup, Fail> {
-    Ok(WrittenGroup {
-        model: 2,
-        name: Text::new(alloc, "public")?,
-        group: Text::new(alloc, "readers")?,
-    })
-}
+// A policy whose community `public` reads all below 1.3.
+const ALL_READ: &str = r#"contexts = []
+[[community]]
+index = "p"
+name = "public"
+security = "public"
+context = ""
+[[group]]
+model = 2
+name = "public"
+group = "readers"
+[[access]]
+group = "readers"
+prefix = ""
+model = 2
+level = 1
+exact = true
+read = "all"
+write = ""
+notify = ""
+[[family]]
+view = "all"
+subtree = "1.3"
+mask = ""
+included = true
+"#;
 
-// The group reads the view `all`.
-fn access(alloc: Global) -> Result<WrittenAccess, Fail> {
-    Ok(WrittenAccess {
-        group: Text::new(alloc, "readers")?,
-        prefix: Text::new(alloc, "")?,
-        model: 2,
-        level: 1,
-        exact: true,
-        read: Text::new(alloc, "all")?,
-        write: Text::new(alloc, "")?,
-        notify: Text::new(alloc, "")?,
-    })
-}
-
-// The view `all` has all below 1.3.
-fn family(alloc: Global) -> Result<WrittenFamily, Fail> {
-    Ok(WrittenFamily {
-        view: Text::new(alloc, "all")?,
-        subtree: Oid::from_slice(alloc, &[1, 3])?,
-        mask: Octets::new(Vec::new(alloc)),
-        included: true,
-    })
-}
-
-// The policy of these rows.
-fn policy(alloc: Global) -> Result<Policy, Fail> {
-    let rows = VacmRows {
-        groups: Rows::new(Vec::from_array(alloc, [group(alloc)?])?),
-        access: Rows::new(Vec::from_array(alloc, [access(alloc)?])?),
-        families: Rows::new(Vec::from_array(alloc, [family(alloc)?])?),
-        contexts: Rows::new(Vec::new(alloc)),
-    };
-    let vacm = Vacm::new(alloc, rows).ok().ok_or("tables")?;
-    let communities = Rows::new(Vec::from_array(alloc, [community(alloc)?])?);
-    Ok(
-        Policy::new(alloc, communities, vacm)
-            .ok()
-            .ok_or("a policy")?,
-    )
-}
-
-fn port(ifindex: u32) -> PortConfig
+/// A port of an interface number, a speed in Mb/s, and full duplex or not.
+pub fn port(ifindex: u32, speed: u32, full: bool) -> PortConfig
     requires least { 1 ≤ ifindex }
     requires most { ifindex ≤ 2147483647 }
 {
     PortConfig {
         ifindex: IfIndex::of(ifindex),
-        speed: 1_000,
-        full: true,
+        speed,
+        full,
     }
 }
 
-/// A bridge of two ports, as it opens, of which the community `public` sees all.
+/// All objects of a bridge and its policy.
+pub fn all_objects(alloc: Global) -> Result<Registry<Object<Steady>>, Fail> {
+    match Registry::new(objects(alloc, Steady)?) {
+        Ok(registry) => Ok(registry),
+        Err(_) => Err(Fail::from("a registry")),
+    }
+}
+
+/// A bridge of these ports, as it opens, under a policy of one view, `all`, in which all of the bridge is.
+pub fn seen_world_of(alloc: Global, ports: &[PortConfig]) -> Result<World, Fail> {
+    world_under(alloc, ports, ALL_SEEN.as_bytes())
+}
+
+/// A bridge of two ports, as it opens, of which the community `public` reads all.
 pub fn open_world(alloc: Global) -> Result<World, Fail> {
-    let bridge = Bridge::new(alloc, OWN, &[port(1), port(2)])
-        .ok()
-        .ok_or("a bridge")?;
+    let ports = [port(1, 1_000, true), port(2, 1_000, true)];
+    world_under(alloc, &ports, ALL_READ.as_bytes())
+}
+
+/// A bridge of these ports, as it opens, under this policy.
+pub fn world_under(alloc: Global, ports: &[PortConfig], policy: &[u8]) -> Result<World, Fail> {
+    let bridge = Bridge::new(alloc, OWN, ports).ok().ok_or("a bridge")?;
+    let policy = policy_in(alloc, policy)?.ok_or("a policy")?;
     Ok(World {
         bridge,
-        policy: policy(alloc)?,
+        policy,
         bad_communities: 0,
         unknown_contexts: 0,
     })

@@ -9,7 +9,8 @@ use rstp_core::{IfIndex, Key, PortConfig, PortKey};
 use std::alloc::Global;
 use std::test::Fail;
 
-fn port() -> PortConfig {
+/// A port of 1000 Mb/s, full duplex.
+pub fn port() -> PortConfig {
     PortConfig {
         ifindex: IfIndex::of(1),
         speed: 1_000,

@@ -1,8 +1,9 @@
-//! Tests of a bridge from outside: flat copies of it, and places for static rows that are refused. What
-//! is learned, where frames go and the spanning tree are rows of the stored scripts.
+//! Tests of frames and BPDUs as octets, worked by hand or built by another program; and of a bridge from
+//! outside: flat copies of it, and places for static rows that are refused. What is learned, where frames
+//! go and the spanning tree are rows of the stored scripts.
 //!
 //! # Entry points
-//! None: the tests call what `bridge_core` offers.
+//! None: the tests call what `frame_core` and `bridge_core` offer.
 //!
 //! # Definitions
 //! None.
@@ -18,3 +19,7 @@
 mod bridge;
 #[cfg(test)]
 mod statics;
+#[cfg(test)]
+mod vectors;
+#[cfg(test)]
+mod worked;

@@ -1,11 +1,11 @@
 //! Static rows that are not made, and places for rows: promised, refused, and none.
 ghost use Rattle.std.specs.Prelude.{◌<◌, length};
 
+use crate::bridge::port;
 use bridge_core::Bridge;
 use fdb_core::{PortSet, StaticIndex, has_other_port};
 use frame_core::Mac;
 use frame_core::worked::OWN;
-use rstp_core::{IfIndex, PortConfig};
 use std::alloc::{AllocError, Global};
 use std::process::Abort;
 use std::test::Fail;
@@ -15,14 +15,6 @@ const ROW: StaticIndex = StaticIndex {
     address: Mac([0x02, 0x00, 0x00, 0x00, 0x01, 0x01]),
     port: 0,
 };
-
-fn port() -> PortConfig {
-    PortConfig {
-        ifindex: IfIndex::of(1),
-        speed: 1_000,
-        full: true,
-    }
-}
 
 // A bridge of three ports.
 fn opened(alloc: Global) -> Result<Bridge, Fail> {

@@ -53,8 +53,8 @@ pub fn history_over<O: MibObject>(
     Ok(Kept::new(alloc, registry, world).ok().ok_or("room")?)
 }
 
-// A history over what is served, in which nothing has happened.
-fn history_of(alloc: Global, served: Served) -> Result<Kept<Shown>, Fail> {
+/// A history over what is served, in which nothing has happened.
+pub fn history_of(alloc: Global, served: Served) -> Result<Kept<Shown>, Fail> {
     history_over(alloc, objects(alloc, Planned::new())?, served)
 }
 

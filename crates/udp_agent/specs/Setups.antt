@@ -35,8 +35,14 @@ pub record IsSetup (address : Mac) (ports : List Port) (serve : Option Serve) (s
   pub ports_are : AreSockets ports setup.ports.items
   pub serve_is : serve ≡ Some setup.serve
 
+-- it is stated how to serve, and not of each port where its frames come in and go
+pub record LacksSockets (ports : List Port) (serve : Option Serve) : Type 0 where
+  pub how : Serve
+  pub is : serve ≡ Some how
+  pub lacking : All HasSockets ports → ⊥
+
 -- why ports and such a word of how to serve make no setup, if they make none
 abbrev pub IsUnserved : List Port → Option Serve → Option Unserved → Type 0
 IsUnserved ports serve None = HasSetup ports serve
 IsUnserved ports serve (Some NoServe) = serve ≡ None
-IsUnserved ports serve (Some NoSockets) = All HasSockets ports → ⊥
+IsUnserved ports serve (Some NoSockets) = LacksSockets ports serve

@@ -105,13 +105,11 @@ pub(crate) fn control_wire<C: Clock + Copy + Drop>(
 ) -> io::Result<Option<LastingControl<C>>>
     ensures { IfOk result (λ wire. is_some wire ≡ is_some control) }
 {
-    match control {
-        None => Ok(None),
-        Some(control) => Ok(Some(Controlled {
-            wire: share_first(ports)?,
-            control,
-        })),
-    }
+    let Some(control) = control else {
+        return Ok(None);
+    };
+    let wire = share_first(ports)?;
+    Ok(Some(Controlled { wire, control }))
 }
 
 /// The lines of a setup that is served without an end: over sockets as those of `bind_lines`, but no

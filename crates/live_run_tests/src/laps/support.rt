@@ -3,16 +3,13 @@ use crate::fixtures::message::Held::Null;
 use crate::fixtures::message::{get, octets_of};
 use crate::fixtures::names::PORTS;
 use crate::fixtures::worlds::built_in;
-use bridge_mib::Planned;
+use crate::support::{MANAGER, Shown, history_of, peer};
 use frame_core::Mac;
 use history_core::Kept;
 use live_agent::{Gated, OpenGate, Paced, Plan};
 use live_control::Controlled;
 use live_run::Lines;
-use object_list::{Object, objects};
-use setphase_core::{Registry, are_named};
 use std::alloc::Global;
-use std::net::{IpAddr, Ipv4Addr, SocketAddr};
 use std::test::Fail;
 use wire_core::{CountPace, FailingWire, MemoryWire, WireInput};
 
@@ -25,20 +22,9 @@ pub type LinesOver = Lines<Gated<Wires, OpenGate>, Wires, Paced<Wires, CountPace
 /// The wire of the control line.
 pub type ControlOver = Controlled<Wires, Wires>;
 
-// A manager on this machine.
-fn manager() -> SocketAddr {
-    SocketAddr::new(IpAddr::V4(Ipv4Addr::LOCALHOST), 30001)
-}
-
 /// The history of a bridge of two ports, which `public` reads, in which nothing has happened.
-pub fn history(alloc: Global) -> Result<Kept<Object<Planned>>, Fail> {
-    let shown = objects(alloc, Planned::new())?;
-    if !are_named(shown.as_slice()) {
-        return Err(Fail::from("names of objects"));
-    }
-    let registry = Registry::new(shown).ok().ok_or("a registry")?;
-    let kept = Kept::new(alloc, registry, built_in(alloc)?.world);
-    Ok(kept.ok().ok_or("room")?)
+pub fn history(alloc: Global) -> Result<Kept<Shown>, Fail> {
+    history_of(alloc, built_in(alloc)?)
 }
 
 /// A plan of two rounds an interval, over a bridge whose ports have no peers.
@@ -56,9 +42,9 @@ fn asking(alloc: Global) -> Result<MemoryWire, Fail> {
     let octets = octets_of(alloc, &get(&[(PORTS, Null)]))?;
     let mut wire = MemoryWire::new(alloc);
     for _ in 0..5 {
-        wire.give_datagram(manager(), &octets)?;
+        wire.give_datagram(peer(MANAGER), &octets)?;
     }
-    wire.give_datagram(manager(), b"no request")?;
+    wire.give_datagram(peer(MANAGER), b"no request")?;
     Ok(wire)
 }
 
@@ -118,9 +104,9 @@ pub fn lines_broken(alloc: Global) -> Result<LinesOver, Fail> {
 /// closed behind them; the control wire fails at this call, or at none where it is 0.
 pub fn commanding(alloc: Global, call: u64) -> Result<ControlOver, Fail> {
     let mut wire = MemoryWire::new(alloc);
-    wire.give_datagram(manager(), b"link 1 down")?;
-    wire.give_datagram(manager(), b"link 1 up")?;
-    wire.give_datagram(manager(), b"counts")?;
+    wire.give_datagram(peer(MANAGER), b"link 1 down")?;
+    wire.give_datagram(peer(MANAGER), b"link 1 up")?;
+    wire.give_datagram(peer(MANAGER), b"counts")?;
     Ok(Controlled {
         wire: FailingWire::new(MemoryWire::new(alloc), 0),
         control: FailingWire::new(wire, call),

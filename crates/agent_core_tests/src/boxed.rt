@@ -7,9 +7,9 @@ use std::alloc::Global;
 use std::io::Write;
 use std::test::Fail;
 
-/// The objects' names behind dot1dBridge (RFC 4188, RFC 4318), and those that stand elsewhere whole
-/// (RFC 3415).
-pub const NAMES: [&str; 57] = [
+// The objects' names behind dot1dBridge (RFC 4188, RFC 4318), and those that stand elsewhere whole
+// (RFC 3415).
+const NAMES: [&str; 57] = [
     "1.1",
     "1.2",
     "1.3",
@@ -92,8 +92,8 @@ fn boxed(alloc: Global, columns: &[Column]) -> Result<Vec<AnyObject>, Fail> {
     Ok(objects)
 }
 
-/// Appends the numbers of a name behind dot1dBridge, or all of them where it stands elsewhere.
-pub fn say_name(name: &[u32], text: &mut Vec<u8>) -> Result<(), Fail> {
+// Appends the numbers of a name behind dot1dBridge, or all of them where it stands elsewhere.
+fn say_name(name: &[u32], text: &mut Vec<u8>) -> Result<(), Fail> {
     let rest = name.strip_prefix(&[1, 3, 6, 1, 2, 1, 17]);
     say_numbers(rest.unwrap_or(name), text)
 }

@@ -1,4 +1,4 @@
-use Rattle.live_control_tests.proofs.commanded.run_over.Given as goal
+use Rattle.live_run_tests.proofs.commanded.run_over.Given as goal
 
 abbrev pub ghosts-commanded-L-Ledger : goal.ghosts-commanded-L-Ledger
 ghosts-commanded-L-Ledger g a = record { name = a.blank.name; parts = a.blank.parts }

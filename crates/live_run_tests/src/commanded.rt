@@ -1,24 +1,18 @@
 //! Commands over a wire in memory: what each is answered, what is recorded of it, and what the ports
 //! send.
-ghost use Rattle.std.specs.Prelude.{◌≡◌, ◌<◌, ◌≤◌};
+ghost use Rattle.std.specs.Prelude.{◌≡◌, ◌<◌};
 
-use bridge_core::Bridge;
-use bridge_mib::Planned;
-use community_core::Policy;
-use configuration::{BUILT_IN, configuration_in};
+use crate::fixtures::worlds::built_in;
+use crate::support::{MANAGER, PEER_OF_PORT_1, PEER_OF_PORT_2, Shown, history_of, peer};
 use control_text::MAX_POLICY;
 use frame_core::Mac;
 use history_core::Kept;
 use live_agent::{End, Plan};
 use live_control::{COMMAND_SPACE, ControlItem, Controlled, DropCounts, DropTally, control_run};
 use live_lock::{Live, Run};
-use object_list::{Object, objects};
 use rising::Blank;
-use rstp_core::{IfIndex, PortConfig};
-use setphase_core::{Registry, World, are_named};
 use std::alloc::Global;
 use std::marker::Brand;
-use std::net::{IpAddr, Ipv4Addr, SocketAddr};
 use std::sync::{Wait, ledger};
 use std::test::Fail;
 use wire_core::{FailingWire, MemoryWire, Packet, Wire, WireFault};
@@ -43,48 +37,12 @@ impl DropTally for Dropped {
     }
 }
 
-// Somebody on this machine, at a port of UDP.
-fn peer(port: u16) -> SocketAddr {
-    SocketAddr::new(IpAddr::V4(Ipv4Addr::LOCALHOST), port)
-}
-
-// A port of 1000 Mb/s, full duplex.
-fn port(number: u32) -> PortConfig
-    requires { (1 ≤ number) × (number ≤ 9) }
-{
-    PortConfig {
-        ifindex: IfIndex::of(number),
-        speed: 1000,
-        full: true,
-    }
-}
-
-// The policy of the built-in configuration.
-fn built_in(alloc: Global) -> Result<Policy, Fail> {
-    let configuration = configuration_in(alloc, BUILT_IN.as_bytes())
-        .ok()
-        .ok_or("built in")?;
-    Ok(configuration.policy)
-}
-
-// A history of a bridge of two ports, in which nothing has happened.
-fn history(alloc: Global) -> Result<Kept<Object<Planned>>, Fail> {
-    let ports = [port(1), port(2)];
-    let bridge = Bridge::new(alloc, Mac([2, 0, 0, 0, 0, 10]), &ports)
-        .ok()
-        .ok_or("a bridge")?;
-    let world = World {
-        bridge,
-        policy: built_in(alloc)?,
-        bad_communities: 6,
-        unknown_contexts: 7,
-    };
-    let objects = objects(alloc, Planned::new())?;
-    if !are_named(objects.as_slice()) {
-        return Err(Fail::from("names of objects"));
-    }
-    let registry = Registry::new(objects).ok().ok_or("a registry")?;
-    Ok(Kept::new(alloc, registry, world).ok().ok_or("room")?)
+// The history of a bridge of two ports, in which nothing has happened.
+fn history(alloc: Global) -> Result<Kept<Shown>, Fail> {
+    let mut served = built_in(alloc)?;
+    served.world.bad_communities = 6;
+    served.world.unknown_contexts = 7;
+    history_of(alloc, served)
 }
 
 // A policy that nobody may use, as a command.
@@ -116,7 +74,7 @@ type Done<W, C> = (End, Vec<ControlItem>, Controlled<W, C>);
 fn commanded<L: Run, W: Wire, C: Wire, R: Wait>(
     rt: &R,
     alloc: Global,
-    kept: Kept<Object<Planned>>,
+    kept: Kept<Shown>,
     blank: ledger::Blank,
     number: Blank,
     moved: Blank,
@@ -129,12 +87,12 @@ fn commanded<L: Run, W: Wire, C: Wire, R: Wait>(
     requires some { 0 < blank.parts }
     requires start { kept ≡ L.start }
 {
-    let (live, mut share) = Live::<Object<Planned>, L>::new(kept, blank, number, moved);
+    let (live, mut share) = Live::<Shown, L>::new(kept, blank, number, moved);
     let plan = Plan {
         alloc,
         rounds: 20,
         source: Mac([2, 0, 0, 0, 0, 10]),
-        peers: Vec::from_array(alloc, [peer(20001), peer(20002)])?,
+        peers: Vec::from_array(alloc, [peer(PEER_OF_PORT_1), peer(PEER_OF_PORT_2)])?,
     };
     let mut wires = wires;
     let mut space = vec![in alloc; 0u8; COMMAND_SPACE]?;
@@ -162,7 +120,7 @@ fn run_over<W: Wire, C: Wire, R: Wait>(
 fn giving(alloc: Global, commands: &[&[u8]]) -> Result<MemoryWire, Fail> {
     let mut control = MemoryWire::new(alloc);
     for command in commands {
-        control.give_datagram(peer(1), command)?;
+        control.give_datagram(peer(MANAGER), command)?;
     }
     Ok(control)
 }
@@ -213,7 +171,7 @@ fn what_a_port_sends_goes_to_its_peer_and_is_answered(rt: HostRuntime) -> Result
     let (_, _, wires) = run_over(&rt, alloc, MemoryWire::new(alloc), control)?;
     let sent = wires.wire.sent();
     assert_eq!(rt; sent.len(), 1);
-    assert!(rt; sent[0].peer == peer(20001));
+    assert!(rt; sent[0].peer == peer(PEER_OF_PORT_1));
     assert_eq!(rt; sent[0].octets.as_slice().len(), 60);
     assert!(rt; is_answer(wires.control.sent(), 0, PROPOSAL));
     Ok(())
