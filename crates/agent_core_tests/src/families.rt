@@ -1,9 +1,6 @@
 //! The longest names of vacmViewTreeFamilyTable (RFC 3415).
 use crate::worlds::{all_objects, port, world_under};
-use bridge_mib::Steady;
 use message_core::Value;
-use object_list::Object;
-use setphase_core::{Column, MibObject, World};
 use std::alloc::Global;
 use std::test::Fail;
 
@@ -112,7 +109,7 @@ fn is_integer(value: Option<Value>, number: i32) -> bool {
 // How many numbers the name of a row's type has, and whether a registry of all objects gives it behind
 // this column of another row, with the row's value, and reads it.
 fn follows(alloc: Global, column: u32, before: &Row, row: &Row) -> Result<(usize, bool), Fail> {
-    let world = world_under(alloc, &[port(1, 1_000, true)], FAMILIES.as_bytes())?;
+    let world = world_under(alloc, &[port(1)], FAMILIES.as_bytes())?;
     let registry = all_objects(alloc)?;
     let after = name_of(alloc, column, before)?;
     let name = name_of(alloc, 4, row)?;

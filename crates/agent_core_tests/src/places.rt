@@ -1,8 +1,8 @@
 //! What each object reserves of its 64 places.
 use crate::worlds::{port, seen_world_of};
 use bridge_mib::Steady;
-use message_core::{Octets, Value};
-use object_list::{COLUMNS, Object};
+use message_core::Value;
+use object_list::Object;
 use setphase_core::{
     Column, ExtPort, Family, MibObject, Rapid, SetFault, Static, Stp, StpPort, Tp, World,
 };
@@ -42,7 +42,7 @@ const WRITTEN: [WriteCase; 17] = [
 
 // A world of one port, whose policy has one family.
 fn one_port(alloc: Global) -> Result<World, Fail> {
-    seen_world_of(alloc, &[port(1, 1_000, true)])
+    seen_world_of(alloc, &[port(1)])
 }
 
 // The object of a column, of which a test of an instance took all 64 places.

@@ -90,7 +90,7 @@ fn ended(
 #[test]
 fn writes_64_variables_of_static_rows(rt: HostRuntime) -> Result<(), Fail> {
     let alloc = rt.alloc();
-    let mut world = seen_world_of(alloc, &[port(1, 1_000, true), port(2, 1_000, true)])?;
+    let mut world = seen_world_of(alloc, &[port(1), port(2)])?;
     let mut registry = statics(alloc)?;
     let sets = [
         (

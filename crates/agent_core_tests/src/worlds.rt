@@ -1,17 +1,15 @@
-//! Worlds made by hand.
+//! Worlds made by hand, and all objects.
 ghost use Rattle.std.specs.Prelude.{◌≤◌};
 
 use bridge_core::Bridge;
 use bridge_mib::Steady;
-use frame_core::Mac;
+use frame_core::worked::OWN;
 use object_list::{Object, objects};
 use policy_text::policy_in;
 use rstp_core::{IfIndex, PortConfig};
-use setphase_core::{MibObject, Registry, World};
+use setphase_core::{Registry, World};
 use std::alloc::Global;
 use std::test::Fail;
-
-const OWN: Mac = Mac([0x02, 0x00, 0x00, 0x00, 0x00, 0x0A]);
 
 // A policy of one view, `all`, of all of the bridge.
 const ALL_SEEN: &str = r#"contexts = []
@@ -52,24 +50,22 @@ mask = ""
 included = true
 "#;
 
-/// A port of an interface number, a speed in Mb/s, and full duplex or not.
-pub fn port(ifindex: u32, speed: u32, full: bool) -> PortConfig
+/// A port of an interface number, of 1000 Mb/s and full duplex.
+pub fn port(ifindex: u32) -> PortConfig
     requires least { 1 ≤ ifindex }
     requires most { ifindex ≤ 2147483647 }
 {
     PortConfig {
         ifindex: IfIndex::of(ifindex),
-        speed,
-        full,
+        speed: 1_000,
+        full: true,
     }
 }
 
 /// All objects of a bridge and its policy.
 pub fn all_objects(alloc: Global) -> Result<Registry<Object<Steady>>, Fail> {
-    match Registry::new(objects(alloc, Steady)?) {
-        Ok(registry) => Ok(registry),
-        Err(_) => Err(Fail::from("a registry")),
-    }
+    let objects = objects(alloc, Steady)?;
+    Ok(Registry::new(objects).ok().ok_or("a registry")?)
 }
 
 /// A bridge of these ports, as it opens, under a policy of one view, `all`, in which all of the bridge is.
@@ -79,8 +75,7 @@ pub fn seen_world_of(alloc: Global, ports: &[PortConfig]) -> Result<World, Fail>
 
 /// A bridge of two ports, as it opens, of which the community `public` reads all.
 pub fn open_world(alloc: Global) -> Result<World, Fail> {
-    let ports = [port(1, 1_000, true), port(2, 1_000, true)];
-    world_under(alloc, &ports, ALL_READ.as_bytes())
+    world_under(alloc, &[port(1), port(2)], ALL_READ.as_bytes())
 }
 
 /// A bridge of these ports, as it opens, under this policy.

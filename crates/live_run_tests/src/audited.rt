@@ -1,5 +1,5 @@
 //! The lines of audits: offered to a queue, and written.
-use crate::support::{MANAGER, peer};
+use crate::support::{MANAGER, loopback};
 use audit_core::{Audit, DeniedBindings, Unrestored};
 use decision::Decision;
 use live_agent::{AnsweredRequest, Gate};
@@ -27,7 +27,7 @@ fn audit_of_nothing(alloc: Global) -> Audit {
 fn answered(number: u64) -> AnsweredRequest {
     AnsweredRequest {
         number,
-        peer: peer(MANAGER),
+        peer: loopback(MANAGER),
         request_id: -7,
     }
 }

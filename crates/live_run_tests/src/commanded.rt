@@ -3,11 +3,10 @@
 ghost use Rattle.std.specs.Prelude.{◌≡◌, ◌<◌};
 
 use crate::fixtures::worlds::built_in;
-use crate::support::{MANAGER, PEER_OF_PORT_1, PEER_OF_PORT_2, Shown, history_of, peer};
+use crate::support::{OPERATOR, PEER_OF_PORT_1, Shown, history_of, loopback, plan_of};
 use control_text::MAX_POLICY;
-use frame_core::Mac;
 use history_core::Kept;
-use live_agent::{End, Plan};
+use live_agent::End;
 use live_control::{COMMAND_SPACE, ControlItem, Controlled, DropCounts, DropTally, control_run};
 use live_lock::{Live, Run};
 use rising::Blank;
@@ -37,7 +36,8 @@ impl DropTally for Dropped {
     }
 }
 
-// The history of a bridge of two ports, in which nothing has happened.
+// The history of a bridge of two ports which has dropped requests of six unknown communities and of seven
+// unknown contexts, and keeps no entry.
 fn history(alloc: Global) -> Result<Kept<Shown>, Fail> {
     let mut served = built_in(alloc)?;
     served.world.bad_communities = 6;
@@ -88,12 +88,7 @@ fn commanded<L: Run, W: Wire, C: Wire, R: Wait>(
     requires start { kept ≡ L.start }
 {
     let (live, mut share) = Live::<Shown, L>::new(kept, blank, number, moved);
-    let plan = Plan {
-        alloc,
-        rounds: 20,
-        source: Mac([2, 0, 0, 0, 0, 10]),
-        peers: Vec::from_array(alloc, [peer(PEER_OF_PORT_1), peer(PEER_OF_PORT_2)])?,
-    };
+    let plan = plan_of(alloc, 20)?;
     let mut wires = wires;
     let mut space = vec![in alloc; 0u8; COMMAND_SPACE]?;
     let items = Vec::new(alloc);
@@ -120,7 +115,7 @@ fn run_over<W: Wire, C: Wire, R: Wait>(
 fn giving(alloc: Global, commands: &[&[u8]]) -> Result<MemoryWire, Fail> {
     let mut control = MemoryWire::new(alloc);
     for command in commands {
-        control.give_datagram(peer(MANAGER), command)?;
+        control.give_datagram(loopback(OPERATOR), command)?;
     }
     Ok(control)
 }
@@ -171,7 +166,7 @@ fn what_a_port_sends_goes_to_its_peer_and_is_answered(rt: HostRuntime) -> Result
     let (_, _, wires) = run_over(&rt, alloc, MemoryWire::new(alloc), control)?;
     let sent = wires.wire.sent();
     assert_eq!(rt; sent.len(), 1);
-    assert!(rt; sent[0].peer == peer(PEER_OF_PORT_1));
+    assert!(rt; sent[0].peer == loopback(PEER_OF_PORT_1));
     assert_eq!(rt; sent[0].octets.as_slice().len(), 60);
     assert!(rt; is_answer(wires.control.sent(), 0, PROPOSAL));
     Ok(())

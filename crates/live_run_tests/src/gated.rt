@@ -4,7 +4,7 @@ use crate::fixtures::message::{get, octets_of, of, reply, set};
 use crate::fixtures::names::{FAMILY_TYPE, PORTS, PRIORITY};
 use crate::fixtures::policies::BRIDGE_AND_TABLE;
 use crate::support::{
-    LinesOver, MANAGER, Shown, asking, count_of, lines_under, of_edges, peer, policed, run,
+    LinesOver, MANAGER, Shown, asking, count_of, lines_under, loopback, of_edges, policed, run,
 };
 use audit_core::Audit;
 use history_core::Kept;
@@ -144,7 +144,7 @@ fn reads<C: Clock + Send + Copy, R: Threads + Wait + Sync>(
     let (lines, _, report) = run(rt, alloc, 10, history, lines)?;
     let entries = report.ok().ok_or("a report")?.entries;
     let asking = lines.workers.get(1).ok_or("a worker")?;
-    let reported = count_of(asking.wire.sent(), peer(MANAGER), awaited);
+    let reported = count_of(asking.wire.sent(), loopback(MANAGER), awaited);
     let (asked, late) = (*calls.asked.lock(rt), *calls.late.lock(rt));
     Ok(((asking.wire.sent().len(), reported, entries), (asked, late)))
 }

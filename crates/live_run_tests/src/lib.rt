@@ -1,14 +1,15 @@
 //! Tests of wires, histories, threads and runs:
-//! - wires over UDP on this machine, also without an end; paces; those whose tasks are of one start, with the
-//!   control socket;
-//! - histories, and runs over wires in memory: whole runs, the objects that come back from them, and lines that
-//!   go on interval by interval;
-//! - the line of an audit that names all settings which may be unrestored; lines of audits that are offered to a
-//!   queue and written;
-//! - the line of an operator's commands.
+//! - wires over UDP on this machine, with `--forever` too, and the clock's paces; threads that begin together, or
+//!   of which one does not begin, with the control socket;
+//! - histories and receipts; runs over wires in memory: whole runs, the objects that come back from them, and
+//!   threads that go on interval by interval;
+//! - the text of an audit that names all settings which may be unrestored; audit lines that are offered to a queue
+//!   and written;
+//! - the thread of an operator's commands.
 //!
 //! # Entry points
-//! None: the tests call what `wire_core`, `control_socket`, `history_core` and the `live` crates offer.
+//! None: the tests call what `wire_core`, `control_socket`, `history_core`, `audit_core` and the crates `live_..`
+//! offer.
 //!
 //! # Definitions
 //! None.

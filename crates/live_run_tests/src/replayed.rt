@@ -7,7 +7,7 @@ use crate::fixtures::message::Held::{Integer, Null};
 use crate::fixtures::message::{Message, Pdu, octets_of};
 use crate::fixtures::names::{LEARNED_PORT, PRIORITY, SINCE, STATE_1};
 use crate::support::{
-    FLOODED, PEER_OF_PORT_2, Shown, asking, carrying, count_of, lines_of, of_edges, peer, run,
+    FLOODED, PEER_OF_PORT_2, Shown, asking, carrying, count_of, lines_of, loopback, of_edges, run,
 };
 use agent_core::Buffer;
 use history_core::{Applied, Event, Kept, Receipt, ReceiptEvent};
@@ -175,7 +175,7 @@ fn compared<R: Threads + Wait + Sync>(
         reports_all(alloc, &mut again)?,
     ];
     let port = lines.ports.first().ok_or("a port")?;
-    let forwarded = count_of(port.sent(), peer(PEER_OF_PORT_2), &FLOODED);
+    let forwarded = count_of(port.sent(), loopback(PEER_OF_PORT_2), &FLOODED);
     Ok((report.entries, stood, reported, forwarded))
 }
 

@@ -5,7 +5,7 @@ use crate::fixtures::names::{HELLO, PRIORITY};
 use crate::fixtures::policies::MASKED;
 use crate::support::{
     FLOODED, LinesOver, MANAGER, PEER_OF_PORT_2, Shown, asking, carrying, count_of, lines_of,
-    of_edges, of_fast_hello, packets_to, peer, policed, run,
+    loopback, of_edges, of_fast_hello, packets_to, policed, run,
 };
 use history_core::Kept;
 use live_agent::OpenGate;
@@ -74,7 +74,7 @@ fn worker_of(alloc: Global, case: &Case) -> Result<MemoryWire, Fail> {
     if let Some(last) = case.messages.last() {
         let octets = octets_of(alloc, last)?;
         for _ in 0..case.again {
-            wire.give_datagram(peer(MANAGER), &octets)?;
+            wire.give_datagram(loopback(MANAGER), &octets)?;
         }
     }
     Ok(wire)
@@ -91,10 +91,10 @@ fn answers<R: Threads + Wait + Sync>(
     let history = history_of(alloc, case.world)?;
     let (lines, history, report) = ran(rt, alloc, history, wires, case.seconds)?;
     let worker = lines.workers.first().ok_or("a worker")?;
-    let reported = count_of(worker.wire.sent(), peer(MANAGER), &octets);
+    let reported = count_of(worker.wire.sent(), loopback(MANAGER), &octets);
     let base = history.base_number();
     Ok((
-        [packets_to(worker.wire.sent(), peer(MANAGER)), reported],
+        [packets_to(worker.wire.sent(), loopback(MANAGER)), reported],
         [report.entries, report.requests, base, report.older],
     ))
 }
@@ -186,7 +186,7 @@ fn a_run_forwards_a_frame(rt: HostRuntime) -> Result<(), Fail> {
     let wires = (MemoryWire::new(alloc), carrying(alloc, &FLOODED)?);
     let (lines, _, report) = ran(&rt, alloc, of_edges(alloc)?, wires, 0)?;
     let port = lines.ports.first().ok_or("a port")?;
-    let forwarded = count_of(port.sent(), peer(PEER_OF_PORT_2), &FLOODED);
+    let forwarded = count_of(port.sent(), loopback(PEER_OF_PORT_2), &FLOODED);
     assert_eq!(rt; (port.sent().len(), forwarded, report.entries), (1, 1, 3));
     Ok(())
 }

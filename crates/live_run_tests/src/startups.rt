@@ -1,8 +1,8 @@
 //! Tasks of one start: what a wire, a pace and the control socket do where all begin, and where one does
 //! not, by a clock that a test sets.
 use crate::clock::SetClock;
-use crate::support::peer;
-use crate::wires::receipt;
+use crate::support::loopback;
+use crate::wires::received;
 use control_socket::{ControlSocket, bind_control};
 use std::alloc::Global;
 use std::fs::{self, Permissions};
@@ -31,7 +31,7 @@ fn sent_to<'c, R: Net>(
     times: u8,
 ) -> Result<LastingWire<&'c SetClock>, Fail> {
     let sending = Arc::new(alloc, SendingSockets::bind(rt, alloc, &[])?)?;
-    let mut wire = LastingWire::bind(rt, alloc, peer(0), &sending, startup, clock)?;
+    let mut wire = LastingWire::bind(rt, alloc, loopback(0), &sending, startup, clock)?;
     let own = wire.local_addr()?;
     for octet in 0..times {
         if wire.send(own, &[octet]).is_err() {
@@ -43,7 +43,7 @@ fn sent_to<'c, R: Net>(
 
 // The octet that a wire gave, or why there is none.
 fn octet<W: Wire>(wire: &mut W) -> Result<Option<u8>, &'static str> {
-    Ok(receipt(wire)?.map(|(_, _, octet)| octet))
+    Ok(received(wire)?.map(|(_, _, octet)| octet))
 }
 
 // Of two tasks one never begins in time: from five seconds on the other's wire is closed, though datagrams

@@ -20,8 +20,8 @@ use wire_core::{CountPace, MemoryWire, Packet, Wire};
 /// The objects of a bridge, with no device that fails.
 pub type Shown = Object<Planned>;
 
-/// Somebody on this machine, at a port of UDP.
-pub fn peer(port: u16) -> SocketAddr {
+/// An address of this machine, at a port of UDP.
+pub fn loopback(port: u16) -> SocketAddr {
     SocketAddr::new(IpAddr::V4(Ipv4Addr::LOCALHOST), port)
 }
 
@@ -34,23 +34,38 @@ pub const PEER_OF_PORT_2: u16 = 20002;
 /// A manager.
 pub const MANAGER: u16 = 30001;
 
+/// An operator.
+pub const OPERATOR: u16 = 30002;
+
 /// A frame to everybody, from a station.
 pub const FLOODED: [u8; 14] = [
     0xFF, 0xFF, 0xFF, 0xFF, 0xFF, 0xFF, 0x02, 0x00, 0x00, 0x00, 0x01, 0x01, 0x08, 0x00,
 ];
 
-/// A history of these objects over what is served, in which nothing has happened.
-pub fn history_over<O: MibObject>(
+/// A history of these objects over what is served, in which nothing has happened; its first entry is
+/// to have this number.
+pub fn history_from<O: MibObject>(
     alloc: Global,
     objects: Vec<O>,
     served: Served,
+    first: u64,
 ) -> Result<Kept<O>, Fail> {
     let Served { world, .. } = served;
     if !are_named(objects.as_slice()) {
         return Err(Fail::from("names of objects"));
     }
     let registry = Registry::new(objects).ok().ok_or("a registry")?;
-    Ok(Kept::new(alloc, registry, world).ok().ok_or("room")?)
+    let kept = Kept::resume(alloc, registry, world, first);
+    Ok(kept.ok().ok_or("memory")?)
+}
+
+/// The same, whose first entry is to have the number 0.
+pub fn history_over<O: MibObject>(
+    alloc: Global,
+    objects: Vec<O>,
+    served: Served,
+) -> Result<Kept<O>, Fail> {
+    history_from(alloc, objects, served, 0)
 }
 
 /// A history over what is served, in which nothing has happened.
@@ -86,13 +101,13 @@ pub fn of_fast_hello(alloc: Global) -> Result<Kept<Shown>, Fail> {
     history_of(alloc, all_of(alloc, bridge)?)
 }
 
-// A plan of so many rounds, over a bridge of two ports with peers.
-fn plan_of(alloc: Global, rounds: u64) -> Result<Plan, Fail> {
+/// A plan of so many rounds, over a bridge of two ports with peers.
+pub fn plan_of(alloc: Global, rounds: u64) -> Result<Plan, Fail> {
     Ok(Plan {
         alloc,
         rounds,
         source: Mac([2, 0, 0, 0, 0, 10]),
-        peers: Vec::from_array(alloc, [peer(PEER_OF_PORT_1), peer(PEER_OF_PORT_2)])?,
+        peers: Vec::from_array(alloc, [loopback(PEER_OF_PORT_1), loopback(PEER_OF_PORT_2)])?,
     })
 }
 
@@ -119,7 +134,7 @@ pub fn run<O: MibObject + Send, W: Wire + Send, G: Gate + Send, R: Threads + Wai
 pub fn asking(alloc: Global, messages: &[Message<'_>]) -> Result<MemoryWire, Fail> {
     let mut wire = MemoryWire::new(alloc);
     for message in messages {
-        wire.give_datagram(peer(MANAGER), &octets_of(alloc, message)?)?;
+        wire.give_datagram(loopback(MANAGER), &octets_of(alloc, message)?)?;
     }
     Ok(wire)
 }
@@ -127,7 +142,7 @@ pub fn asking(alloc: Global, messages: &[Message<'_>]) -> Result<MemoryWire, Fai
 /// A wire that gives this frame, and is closed behind it.
 pub fn carrying(alloc: Global, frame: &[u8]) -> Result<MemoryWire, Fail> {
     let mut wire = MemoryWire::new(alloc);
-    wire.give_datagram(peer(PEER_OF_PORT_1), frame)?;
+    wire.give_datagram(loopback(PEER_OF_PORT_1), frame)?;
     Ok(wire)
 }
 

@@ -1,5 +1,5 @@
 //! What each wire gives and what each pace answers, by their traits.
-use crate::support::peer;
+use crate::support::loopback;
 use std::net::{IpAddr, Ipv6Addr, SocketAddr};
 use std::sync::Arc;
 use std::test::*;
@@ -9,7 +9,7 @@ use wire_core::{
 };
 
 /// What a receive of up to four octets gave: the peer's port, how many octets, and the first of them.
-pub fn receipt<W: Wire>(wire: &mut W) -> Result<Option<(u16, usize, u8)>, &'static str> {
+pub fn received<W: Wire>(wire: &mut W) -> Result<Option<(u16, usize, u8)>, &'static str> {
     let mut octets = [0u8; 4];
     match wire.receive(&mut octets) {
         Ok(Received::Datagram(len, peer)) => Ok(Some((peer.port(), len, octets[0]))),
@@ -22,12 +22,12 @@ pub fn receipt<W: Wire>(wire: &mut W) -> Result<Option<(u16, usize, u8)>, &'stat
 #[test]
 fn udp_goes_over_the_loopback(rt: HostRuntime) -> Result<(), Fail> {
     let alloc = rt.alloc();
-    let mut server = UdpWire::bind(&rt, alloc, peer(0))?;
-    let mut client = UdpWire::bind(&rt, alloc, peer(0))?;
+    let mut server = UdpWire::bind(&rt, alloc, loopback(0))?;
+    let mut client = UdpWire::bind(&rt, alloc, loopback(0))?;
     let (at, from) = (server.local_addr()?, client.local_addr()?);
     let sent = (client.send(at, &[3, 4]), client.send(at, &[6]));
     let mut shared = server.share()?;
-    let received = (receipt(&mut server), receipt(&mut shared));
+    let received = (received(&mut server), received(&mut shared));
     let wanted = (Ok(Some((from.port(), 2, 3))), Ok(Some((from.port(), 1, 6))));
     assert_eq!(rt; (sent, received), ((Ok(()), Ok(())), wanted));
     Ok(())
@@ -36,17 +36,17 @@ fn udp_goes_over_the_loopback(rt: HostRuntime) -> Result<(), Fail> {
 // Who asks from port 0 can be sent nothing, and the wire goes on; an address of another kind is a fault.
 #[test]
 fn udp_loses_what_nobody_can_take(rt: HostRuntime) -> Result<(), Fail> {
-    let mut wire = UdpWire::bind(&rt, rt.alloc(), peer(0))?;
+    let mut wire = UdpWire::bind(&rt, rt.alloc(), loopback(0))?;
     let (own, other) = (
         wire.local_addr()?,
         SocketAddr::new(IpAddr::V6(Ipv6Addr::LOCALHOST), 9),
     );
     let sent = (
-        wire.send(peer(0), &[1]),
+        wire.send(loopback(0), &[1]),
         wire.send(other, &[1]),
         wire.send(own, &[2]),
     );
-    let received = receipt(&mut wire);
+    let received = received(&mut wire);
     let wanted = (Ok(()), Err(WireFault::Send), Ok(()));
     assert_eq!(rt; (sent, received), (wanted, Ok(Some((own.port(), 1, 2)))));
     Ok(())
@@ -60,13 +60,13 @@ const INVALID_ARGUMENT: Cause = Cause::Number(22);
 #[test]
 fn lasting_wire_loses_what_is_refused(rt: HostRuntime) -> Result<(), Fail> {
     let alloc = rt.alloc();
-    let mut other = UdpWire::bind(&rt, alloc, peer(0))?;
+    let mut other = UdpWire::bind(&rt, alloc, loopback(0))?;
     let at = other.local_addr()?;
     let sending = Arc::new(alloc, SendingSockets::bind(&rt, alloc, &[at])?)?;
     let startup = Arc::new(alloc, Startup::new())?;
-    let mut wire = LastingWire::bind(&rt, alloc, peer(0), &sending, &startup, &rt)?;
+    let mut wire = LastingWire::bind(&rt, alloc, loopback(0), &sending, &startup, &rt)?;
     let own = wire.local_addr()?;
-    let refused = (wire.send(peer(0), &[1]), wire.send(peer(0), &[1]));
+    let refused = (wire.send(loopback(0), &[1]), wire.send(loopback(0), &[1]));
     let sent = (wire.send(own, &[2]), wire.send(at, &[3, 4]));
     let losses = sending.losses();
     let counted = (
@@ -74,14 +74,14 @@ fn lasting_wire_loses_what_is_refused(rt: HostRuntime) -> Result<(), Fail> {
         losses.take(INVALID_ARGUMENT),
         losses.take(Cause::Other),
     );
-    let by_another = receipt(&mut other).map(|given| given.map(|(port, len, first)| (
+    let by_another = received(&mut other).map(|given| given.map(|(port, len, first)| (
         port == own.port(),
         len,
         first,
     )));
     assert_eq!(rt; (refused, sent), ((Ok(()), Ok(())), (Ok(()), Ok(()))));
     assert_eq!(rt; counted, (2, 0, 0));
-    assert_eq!(rt; receipt(&mut wire), Ok(Some((own.port(), 1, 2))));
+    assert_eq!(rt; received(&mut wire), Ok(Some((own.port(), 1, 2))));
     assert_eq!(rt; by_another, Ok(Some((false, 2, 3))));
     Ok(())
 }

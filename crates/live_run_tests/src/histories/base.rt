@@ -2,7 +2,9 @@
 use crate::fixtures::message::Held::Null;
 use crate::fixtures::message::get;
 use crate::fixtures::names::PORTS;
-use crate::histories::support::{entered, history_of, request_of};
+use crate::fixtures::worlds::built_in;
+use crate::histories::support::{entered, request_of};
+use crate::support::history_from;
 use agent_core::Buffer;
 use bridge_mib::Planned;
 use history_core::{Applied, Event, Kept, MAX_ENTRIES, Receipt, Tally};
@@ -31,7 +33,7 @@ fn after<O: MibObject>(
     objects: Vec<O>,
     count: usize,
 ) -> Result<(u64, Option<Tally>), Fail> {
-    let mut history = history_of(alloc, objects, 0)?;
+    let mut history = history_from(alloc, objects, built_in(alloc)?, 0)?;
     let receipts = gets(alloc, &mut history, count)?;
     let base_number = history.base_number();
     let tally = history.compare(&receipts).ok();
@@ -66,7 +68,7 @@ fn is_full<O: MibObject>(alloc: Global, history: &mut Kept<O>) -> bool {
 
 // How many seconds are entered from this number on, of two at most, until no number is left.
 fn entered_from<O: MibObject>(alloc: Global, objects: Vec<O>, first: u64) -> Result<u64, Fail> {
-    let mut history = history_of(alloc, objects, first)?;
+    let mut history = history_from(alloc, objects, built_in(alloc)?, first)?;
     for number in 0..2 {
         if is_full(alloc, &mut history) {
             return Ok(number);

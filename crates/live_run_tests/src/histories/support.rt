@@ -1,34 +1,14 @@
-//! Histories to test, and events for them.
+//! Events for histories.
 ghost use Rattle.std.specs.Prelude.{IfOk};
 ghost use Rattle.history_core.specs.Steps.{IsEncodable};
 
 use crate::fixtures::message::{Message, octets_of};
-use crate::fixtures::worlds::{Served, built_in};
 use agent_core::Buffer;
 use history_core::{Applied, Event, Kept, Receipt};
 use message_core::decode;
-use setphase_core::{MibObject, Registry, are_named};
+use setphase_core::MibObject;
 use std::alloc::Global;
 use std::test::Fail;
-
-/// A history of the built-in world, which these objects show, in which nothing has happened; its
-/// first entry is to have this number.
-pub fn history_of<O: MibObject>(
-    alloc: Global,
-    objects: Vec<O>,
-    first: u64,
-) -> Result<Kept<O>, Fail> {
-    let Served { world, .. } = built_in(alloc)?;
-    if !are_named(objects.as_slice()) {
-        return Err(Fail::from("names of objects"));
-    }
-    let registry = Registry::new(objects).ok().ok_or("a registry")?;
-    Ok(
-        Kept::resume(alloc, registry, world, first)
-            .ok()
-            .ok_or("room")?,
-    )
-}
 
 /// The event of a request.
 pub fn request_of(alloc: Global, message: &Message<'_>) -> Result<Event, Fail>

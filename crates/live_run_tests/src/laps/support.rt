@@ -3,10 +3,10 @@ use crate::fixtures::message::Held::Null;
 use crate::fixtures::message::{get, octets_of};
 use crate::fixtures::names::PORTS;
 use crate::fixtures::worlds::built_in;
-use crate::support::{MANAGER, Shown, history_of, peer};
+use crate::support::{MANAGER, OPERATOR, Shown, history_of, loopback, open};
 use frame_core::Mac;
 use history_core::Kept;
-use live_agent::{Gated, OpenGate, Paced, Plan};
+use live_agent::{OpenGate, Paced, Plan};
 use live_control::Controlled;
 use live_run::Lines;
 use std::alloc::Global;
@@ -17,7 +17,7 @@ use wire_core::{CountPace, FailingWire, MemoryWire, WireInput};
 pub type Wires = FailingWire<MemoryWire>;
 
 /// Lines over them, whose workers no gate holds, and whose ticker has a number of seconds.
-pub type LinesOver = Lines<Gated<Wires, OpenGate>, Wires, Paced<Wires, CountPace>>;
+pub type LinesOver = crate::support::LinesOver<Wires, OpenGate>;
 
 /// The wire of the control line.
 pub type ControlOver = Controlled<Wires, Wires>;
@@ -42,9 +42,9 @@ fn asking(alloc: Global) -> Result<MemoryWire, Fail> {
     let octets = octets_of(alloc, &get(&[(PORTS, Null)]))?;
     let mut wire = MemoryWire::new(alloc);
     for _ in 0..5 {
-        wire.give_datagram(peer(MANAGER), &octets)?;
+        wire.give_datagram(loopback(MANAGER), &octets)?;
     }
-    wire.give_datagram(peer(MANAGER), b"no request")?;
+    wire.give_datagram(loopback(MANAGER), b"no request")?;
     Ok(wire)
 }
 
@@ -69,10 +69,7 @@ fn broken(alloc: Global) -> Result<MemoryWire, Fail> {
 // A worker and a port over these wires, and a ticker of three seconds.
 fn lines_over(alloc: Global, worker: Wires, port: Wires) -> Result<LinesOver, Fail> {
     let mut workers = Vec::new(alloc);
-    workers.push(Gated {
-        wire: worker,
-        gate: OpenGate,
-    })?;
+    workers.push(open(worker))?;
     let mut ports = Vec::new(alloc);
     ports.push(port)?;
     Ok(Lines {
@@ -104,9 +101,9 @@ pub fn lines_broken(alloc: Global) -> Result<LinesOver, Fail> {
 /// closed behind them; the control wire fails at this call, or at none where it is 0.
 pub fn commanding(alloc: Global, call: u64) -> Result<ControlOver, Fail> {
     let mut wire = MemoryWire::new(alloc);
-    wire.give_datagram(peer(MANAGER), b"link 1 down")?;
-    wire.give_datagram(peer(MANAGER), b"link 1 up")?;
-    wire.give_datagram(peer(MANAGER), b"counts")?;
+    wire.give_datagram(loopback(OPERATOR), b"link 1 down")?;
+    wire.give_datagram(loopback(OPERATOR), b"link 1 up")?;
+    wire.give_datagram(loopback(OPERATOR), b"counts")?;
     Ok(Controlled {
         wire: FailingWire::new(MemoryWire::new(alloc), 0),
         control: FailingWire::new(wire, call),
