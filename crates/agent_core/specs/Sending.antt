@@ -1,9 +1,11 @@
 -- Bindings that are to be sent, and the octets that there is space for.
-use Rattle.std.specs.Prelude.{◌≡◌, ℕ, suc, min, max, ◌+◌, ◌-◌, ◌<◌, ◌≤◌, List, [], ◌∷◌, ◌++◌, length, drop, get_or}
+use Rattle.std.specs.Prelude.{◌≡◌, ℕ, suc, min, max, ◌+◌, ◌-◌, ◌<◌, ◌≤◌, List, [], ◌∷◌, ◌++◌, length, map, drop, get_or}
 use Rattle.message_core.specs.Encodable.{AreEncodable}
 use Rattle.message_core.specs.declared.binding.Binding.{Binding}
 use Rattle.message_core.specs.declared.limits.TheConstants.{MAX_REPLY}
 use Rattle.agent_core.specs.declared.source.Stand.{Stand}
+use Rattle.agent_core.specs.declared.sent_name.SentName.{SentName}
+use Rattle.agent_core.specs.Bulk.{is_end}
 use Rattle.agent_core.specs.declared.fitting.TheConstants.{MAX_STANDS}
 use Rattle.agent_core.specs.Fitting.{total}
 
@@ -15,10 +17,14 @@ pub record Sending : Type 0 where
   pub stands : List Stand
   pub most_stands : ℕ
 
--- bindings of so many octets, which fit into the space
-pub record IsSending (sending : Sending) (used : ℕ) : Type 0 where
-  pub used_is : used ≡ total sending.bindings
-  pub within : used ≤ sending.space
+-- what is kept of a binding beside its octets
+abbrev pub sent_name : Binding → SentName
+sent_name binding = record { name = binding.name; is_end = is_end binding.value }
+
+-- bindings that fit into the space, and what is kept of each
+pub record IsSending (sending : Sending) (names : List SentName) : Type 0 where
+  pub names_are : names ≡ map sent_name sending.bindings
+  pub within : total sending.bindings ≤ sending.space
   pub most : sending.space ≤ MAX_REPLY
   pub encodable : AreEncodable sending.bindings
   pub kept_some : 1 ≤ sending.most_stands

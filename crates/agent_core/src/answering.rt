@@ -26,7 +26,7 @@ use crate::source::Source;
 use crate::whole::Whole;
 use audit_core::{Audit, DeniedBindings, Unrestored, UnrestoredSpace};
 use decision::{AccessKey, Cause, Decision, decide};
-use message_core::{Bindings, ErrorStatus, Kind, Request};
+use message_core::{ErrorStatus, Kind, Request};
 use setphase_core::{MibObject, Registry, World};
 use std::alloc::{AllocError, Global};
 use std::marker::Brand;
@@ -298,30 +298,39 @@ fn send_read<O: MibObject, L: Ledger>(
     send_kind(alloc, &served, request, buffer, &mut steps)
 }
 
-// The answers to a request, by its kind, from any source and under any view.
-fn read_kind<S: Source<L>, L: Ledger>(
+// Puts the answers to a request, by its kind, into the buffer, from any source and under any view.
+fn put_read<S: Source<L>, L: Ledger>(
     alloc: Global,
     source: &S,
     request: &Request,
+    buffer: &mut Buffer,
     steps: &mut Steps<L>,
-) -> Result<Bindings, Shortage>
+) -> Result<SentReply, Shortage>
     requires community { length request.now.community ≤ MAX_COMMUNITY }
     requires encodable { AreEncodable request.now.bindings }
     requires reads { request.now.kind ≢ Kind.Set }
-    ensures encodable { IfOk result (λ answers. AreEncodable answers) }
-    ensures answers { IfOk result (λ answers. reply_within_limit
-        (answer_to request.now ErrorStatus.NoError (pos 0) answers)
-        ≡ kind_reply (S.objects source.now) (S.shows source.now) (S.instances source.now) request.now
-        request.now.kind) }
+    ensures sent { IfOk result (λ sent. IsSent (kind_reply (S.objects source.now) (S.shows source.now)
+        (S.instances source.now) request.now request.now.kind) sent buffer.new.reply) }
+    ensures bpdus { buffer.new.bpdus ≡ buffer.old.bpdus }
+    ensures err { OnErr result (buffer.new ≡ buffer.old) }
     ensures lacks { IfErr result (IfName (LacksNameOf (S.shows source.now) (S.instances source.now)
         request.now request.now.kind)) }
 {
     let asked = request.bindings.as_slice();
     source.known();
     match request.kind {
-        Kind::Get => Ok(get_all(alloc, source, asked, steps)?),
-        Kind::GetNext => get_next_all(alloc, source, asked, steps),
-        Kind::GetBulk => get_bulk(alloc, source, request, steps),
+        Kind::Get => {
+            let answers = get_all(alloc, source, asked, steps)?;
+            Ok(buffer.put(request, ErrorStatus::NoError, 0, answers.as_slice()))
+        }
+        Kind::GetNext => {
+            let answers = get_next_all(alloc, source, asked, steps)?;
+            Ok(buffer.put(request, ErrorStatus::NoError, 0, answers.as_slice()))
+        }
+        Kind::GetBulk => {
+            let answers = get_bulk(alloc, source, request, steps)?;
+            Ok(buffer.put_encoded(request, &answers))
+        }
         Kind::Set => unreachable!(),
     }
 }
@@ -372,9 +381,9 @@ fn send_kind<S: Source<L>, L: Ledger>(
     ensures bpdus { buffer.new.bpdus ≡ buffer.old.bpdus }
     ensures err { OnErr result (buffer.new ≡ buffer.old) }
 {
-    match read_kind(alloc, source, request, steps) {
-        Ok(answers) => Ok(ReadReply {
-            sent: buffer.put(request, ErrorStatus::NoError, 0, answers.as_slice()),
+    match put_read(alloc, source, request, buffer, steps) {
+        Ok(sent) => Ok(ReadReply {
+            sent,
             unnamed: None,
         }),
         Err(Shortage::Name(number)) => send_unnamed(request, number, buffer),

@@ -15,7 +15,10 @@ use arrayvec::ArrayVec;
 use bridge_core::Bpdus;
 use frame_core::Bpdu;
 use message_core::laws::short_reply_fits;
-use message_core::{Binding, ErrorStatus, MAX_REPLY, Request, TooBig, encode_answer};
+use message_core::{
+    Binding, EncodedBindings, ErrorStatus, MAX_REPLY, Request, TooBig, encode_answer,
+    encode_no_error,
+};
 use std::marker::Model;
 
 /// A buffer for what one event gives to send: one reply of at most `MAX_REPLY`, 1,472, octets, and what
@@ -115,6 +118,20 @@ impl Buffer {
         sent
     }
 
+    /// Puts the reply to a request in that has no error, or tooBig without bindings where that is too
+    /// long, and says what was put. Takes no memory.
+    pub(crate) fn put_encoded(&mut self, request: &Request, bindings: &EncodedBindings) -> SentReply
+        requires community { length request.now.community ≤ MAX_COMMUNITY }
+        requires encodable { AreEncodable bindings.now }
+        ensures sent { IsSent (reply_within_limit
+            (answer_to request.now ErrorStatus.NoError (pos 0) bindings.now)) result self.new.reply }
+        ensures bpdus { self.new.bpdus ≡ self.old.bpdus }
+    {
+        let sent = put_encoded_sized(request, bindings, &mut self.octets);
+        self.length = sent.length;
+        sent
+    }
+
     /// Puts tooBig without bindings in, whatever the length of the request's own (RFC 3416, 4.2.5),
     /// and says what was put. Takes no memory.
     pub(crate) fn put_too_long(&mut self, request: &Request) -> SentReply
@@ -174,6 +191,33 @@ fn put_sized(
             index,
         },
         Err(TooBig) => SentReply {
+            length: put_too_big(request, octets),
+            status: ErrorStatus::TooBig,
+            index: 0,
+        },
+    }
+}
+
+// The same for a reply that has no error, whose bindings are encoded already.
+fn put_encoded_sized(
+    request: &Request,
+    bindings: &EncodedBindings,
+    octets: &mut [u8; MAX_REPLY],
+) -> SentReply
+    requires community { length request.now.community ≤ MAX_COMMUNITY }
+    requires encodable { AreEncodable bindings.now }
+    ensures sent { IsSent (reply_within_limit
+        (answer_to request.now ErrorStatus.NoError (pos 0) bindings.now))
+        result (take result.length octets.new) }
+    ensures most { result.length ≤ MAX_REPLY }
+{
+    match encode_no_error(request, bindings, octets) {
+        Ok(length) => SentReply {
+            length,
+            status: ErrorStatus::NoError,
+            index: 0,
+        },
+        Err(_) => SentReply {
             length: put_too_big(request, octets),
             status: ErrorStatus::TooBig,
             index: 0,

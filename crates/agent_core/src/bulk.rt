@@ -17,7 +17,7 @@ use crate::fitting::FittingBindings;
 use crate::nexts::{copy_of, find_next};
 use crate::shortage::Shortage;
 use crate::source::{Stand, Successors};
-use message_core::{Binding, Bindings, Request, Value, bindings_space};
+use message_core::{Binding, EncodedBindings, Request, Value, bindings_space};
 use oid_core::Oid;
 use setphase_core::Spot;
 use std::alloc::{AllocError, Global};
@@ -101,7 +101,7 @@ fn offer_instance<S: Successors<L>, L: Ledger>(
 {
     let Lookup { alloc, source } = lookup;
     let name = source.name(alloc, spot)?;
-    Ok(fitting.offer(name, source.value(alloc, spot), stand))
+    Ok(fitting.offer(name, &source.value(alloc, spot), stand))
 }
 
 // Sends what GetNext answers under a name where it fits, and says whether it did.
@@ -137,7 +137,7 @@ fn send_next<S: Successors<L>, L: Ledger>(
         return offer_instance(lookup, spot, stand, fitting);
     }
     let name = copy_of(alloc, name)?;
-    Ok(fitting.offer(name, Value::EndOfMibView, stand))
+    Ok(fitting.offer(name, &Value::EndOfMibView, stand))
 }
 
 // Sends one repetition, GetNext of the name of each of these bindings, as far as it fits, and
@@ -220,13 +220,13 @@ fn send_successor<S: Successors<L>, L: Ledger>(
         (S.instances lookup.entry.source.now) }
 {
     let Lookup { alloc, source } = lookup;
-    let before = &fitting.last(back)[0];
-    let mut stand = stand_back(source, fitting, back, &before.name);
-    if find_next(alloc, source, &before.name, true, &mut stand, spot, steps)? {
+    let before = fitting.name(back);
+    let mut stand = stand_back(source, fitting, back, before);
+    if find_next(alloc, source, before, true, &mut stand, spot, steps)? {
         return offer_instance(lookup, spot, stand, fitting);
     }
-    let name = copy_of(alloc, &before.name)?;
-    Ok(fitting.offer(name, Value::EndOfMibView, stand))
+    let name = copy_of(alloc, before)?;
+    Ok(fitting.offer(name, &Value::EndOfMibView, stand))
 }
 
 // Sends one repetition more, GetNext of the names of the one that was sent last, which has so many
@@ -276,13 +276,6 @@ fn repeat_last<S: Successors<L>, L: Ledger>(
     Ok(true)
 }
 
-// Whether each binding is endOfMibView.
-fn has_ended(row: &[Binding]) -> bool
-    ensures { result ≡ all_end row.now }
-{
-    row.iter().all(|b| matches!(b.value, Value::EndOfMibView))
-}
-
 // Sends up to `most` repetitions more from the names of the one that was sent last, which has so
 // many bindings, as far as they fit.
 //
@@ -317,7 +310,7 @@ fn repeat_further<S: Successors<L>, L: Ledger>(
         fitting.new.bindings) }
 {
     for i in 0..most {
-        if has_ended(fitting.last(columns)) {
+        if fitting.has_ended(columns) {
             return Ok(());
         }
         if !repeat_last(lookup, columns, fitting, spot, steps)? {
@@ -456,7 +449,7 @@ pub fn get_bulk<S: Successors<L>, L: Ledger>(
     source: &S,
     request: &Request,
     steps: &mut Steps<L>,
-) -> Result<Bindings, Shortage>
+) -> Result<EncodedBindings, Shortage>
     requires community { length request.now.community ≤ MAX_COMMUNITY }
     requires encodable { AreEncodable request.now.bindings }
     ensures answer { IfOk result (λ fitting.
@@ -479,9 +472,9 @@ pub fn get_bulk<S: Successors<L>, L: Ledger>(
     let mut spot = Spot::new();
     let lookup = Lookup { alloc, source };
     let filled = send_list(lookup, once, most, asked, &mut fitting, &mut spot, steps);
+    let before = fitting.len();
     let bindings = fitting.into_bindings();
     if filled.is_err() {
-        let before = bindings.as_slice().len();
         return Err(Shortage::Name(binding_number(once, columns, before)));
     }
     Ok(bindings)

@@ -1,16 +1,19 @@
 //! The bindings of a GetBulk that fit so far (RFC 3416, 4.2.3).
-ghost use Rattle.std.specs.Prelude.{List, MatchOption, ◌≡◌, ◌≤◌, ◌<◌, ◌-◌, ◌++◌, [], ◌∷◌, IfOk, OnErr, IsTrue, true, false, length, drop, nat_le, slice_get, if◌then◌else◌, None};
+ghost use Rattle.std.specs.Prelude.{◌≡◌, ◌≤◌, ◌-◌, ◌++◌, [], ◌∷◌, IfOk, IsTrue, false, length, drop, get_or, nat_le, slice_get, if◌then◌else◌, None};
+ghost use Rattle.std.specs.List.{list_all};
 ghost use Rattle.std.specs.Option.{option_copied};
+ghost use Rattle.oid_core.specs.Name.{HasRoot};
+ghost use Rattle.message_core.specs.Instances.{names_of};
 ghost use Rattle.message_core.specs.Encodable.{IsEncodableBinding, AreEncodable};
 ghost use Rattle.message_core.specs.declared.limits.TheConstants.{MAX_REPLY};
-ghost use Rattle.message_core.specs.Canon.{canon_binding};
-ghost use Rattle.message_core.specs.declared.binding.Binding.{Binding};
+ghost use Rattle.agent_core.specs.Bulk.{all_end};
 ghost use Rattle.agent_core.specs.Fitting.{total, fit_into};
 ghost use Rattle.agent_core.specs.Sending.{kept, stands_of};
 
+use crate::sent_name::SentName;
 use crate::source::Stand;
 use arrayvec::ArrayVec;
-use message_core::{Binding, Bindings, Value, encoded_len};
+use message_core::{EncodedBindings, Value};
 use oid_core::Oid;
 use std::alloc::{AllocError, Global};
 use std::marker::Model;
@@ -26,11 +29,11 @@ const SHORTEST_BINDING: usize = 6;
 /// many as fit).
 #[derive(Drop)]
 pub struct FittingBindings {
-    bindings: Vec<Binding>,
+    bindings: EncodedBindings,
+    names: Vec<SentName>,
     // Where walks stand at the names of the last of them, and for how many that is kept.
     stands: ArrayVec<Stand, MAX_STANDS>,
     most_stands: usize,
-    used: usize,
     space: usize,
 }
 
@@ -43,7 +46,7 @@ impl Model for FittingBindings {
 
     ghost view = { λ s. record {
       space = s.space;
-      bindings = s.bindings.items;
+      bindings = s.bindings;
       stands = s.stands.items;
       most_stands = s.most_stands;
     } };
@@ -51,16 +54,16 @@ impl Model for FittingBindings {
     ghost invariant = { λ s.
         IsSending (record {
           space = s.space;
-          bindings = s.bindings.items;
+          bindings = s.bindings;
           stands = s.stands.items;
           most_stands = s.most_stands;
-        }) s.used × (s.space / least_binding < vec_capacity s.bindings) };
+        }) s.names.items × (s.space / least_binding < vec_capacity s.names) };
 }
 
 impl FittingBindings {
     /// No bindings, and a buffer for so many octets. A repetition has so many columns: where walks
-    /// stand is kept for as many bindings. Memory for as many bindings as can fit, and for one more, is
-    /// reserved: so none of them is moved once it is made, and adding one takes none.
+    /// stand is kept for as many bindings. Memory for the names of as many bindings as can fit, and for
+    /// one more, is reserved: so adding one takes none.
     ///
     /// # Errors
     /// `AllocError` where there is no such memory.
@@ -74,47 +77,61 @@ impl FittingBindings {
         }) }
     {
         Ok(FittingBindings {
-            bindings: Vec::with_capacity(alloc, space / SHORTEST_BINDING + 1)?,
+            bindings: EncodedBindings::new(),
+            names: Vec::with_capacity(alloc, space / SHORTEST_BINDING + 1)?,
             stands: ArrayVec::new(),
             most_stands: columns.min(MAX_STANDS).max(1),
-            used: 0,
             space,
         })
     }
 
     /// Adds the binding of a name and a value where it fits (RFC 3416, 4.2.3), and says whether it
-    /// did. It is made in its place, and measured there; one that does not fit is
-    /// removed again. With it is kept where a walk stands at its name. It takes no memory.
-    #[inline(always)]
-    pub fn offer(&mut self, name: Oid, value: Value, stand: Stand) -> bool
-        requires { IsEncodableBinding (record { name = name; value = value }) }
+    /// did. With it is kept where a walk stands at its name. It takes no memory.
+    pub fn offer(&mut self, name: Oid, value: &Value, stand: Stand) -> bool
+        requires { IsEncodableBinding (record { name = name; value = value.now }) }
         ensures taken { IsTrue result →
-            self.new.bindings ≡ self.old.bindings ++ record { name = name; value = value } ∷ [] }
+            self.new.bindings ≡ self.old.bindings ++ record { name = name; value = value.now } ∷ [] }
         ensures stand { IsTrue result →
             self.new.stands ≡ kept self.old.most_stands self.old.stands stand }
         ensures full { result ≡ false → self.new ≡ self.old }
         ensures fits { result ≡ fit_into self.old.space
-            (self.old.bindings ++ record { name = name; value = value } ∷ []) }
+            (self.old.bindings ++ record { name = name; value = value.now } ∷ []) }
         ensures space { self.new.space ≡ self.old.space }
     {
-        self.bindings.push_reserved(Binding { name, value });
-        let Some(len) = last_len(self.bindings.as_slice(), self.space - self.used) else {
-            self.bindings.pop();
+        if !self.bindings.push(&name, value, self.space) {
             return false;
-        };
+        }
+        let is_end = matches!(value, Value::EndOfMibView);
+        self.names.push_reserved(SentName { name, is_end });
         keep(&mut self.stands, self.most_stands, stand);
-        self.used += len;
         true
     }
 
-    /// The last so many bindings: those of one repetition.
-    pub fn last(&self, count: usize) -> &[Binding]
-        requires { count ≤ length self.now.bindings }
-        ensures value { result.now ≡ drop (length self.now.bindings - count) self.now.bindings }
-        ensures encodable { AreEncodable result.now }
+    /// How many bindings there are.
+    pub fn len(&self) -> usize
+        ensures value { result ≡ length self.now.bindings }
+        ensures most { result ≤ MAX_REPLY }
     {
-        let all = self.bindings.as_slice();
-        &all[all.len() - count..]
+        self.names.len()
+    }
+
+    /// The name of the binding so many places back, 1 for the last.
+    pub fn name(&self, back: usize) -> &Oid
+        requires some { 1 ≤ back }
+        requires there { back ≤ length self.now.bindings }
+        ensures value { result.now ≡ get_or (names_of self.now.bindings)
+            (length self.now.bindings - back) [] }
+        ensures root { HasRoot result.now }
+    {
+        &self.names[self.names.len() - back].name
+    }
+
+    /// Whether each of the last so many bindings is endOfMibView: those of one repetition.
+    pub fn has_ended(&self, count: usize) -> bool
+        requires { count ≤ length self.now.bindings }
+        ensures { result ≡ all_end (drop (length self.now.bindings - count) self.now.bindings) }
+    {
+        are_ends(&self.names[self.names.len() - count..])
     }
 
     /// Where a walk stands at the name of the binding so many places back, 1 for the last, where that is
@@ -129,32 +146,27 @@ impl FittingBindings {
     }
 
     /// The bindings. Takes no memory.
-    pub fn into_bindings(self) -> Bindings
+    pub fn into_bindings(self) -> EncodedBindings
         ensures value { result ≡ self.bindings }
         ensures encodable { AreEncodable self.bindings }
         ensures within { total self.bindings ≤ self.space }
     {
         let FittingBindings {
             bindings,
+            names: _,
             stands: _,
             most_stands: _,
-            used: _,
             space: _,
         } = self;
-        Bindings::from_vec(bindings)
+        bindings
     }
 }
 
-// How many octets the last binding has, where these are no more than so many.
-fn last_len(bindings: &[Binding], most: usize) -> Option<usize>
-    requires some { 1 ≤ length bindings.now }
-    requires encodable { AreEncodable bindings.now }
-    requires most { most ≤ MAX_REPLY }
-    ensures { (front : List Binding) (last : Binding) → bindings.now ≡ front ++ last ∷ [] →
-        MatchOption result (most < length (canon_binding last))
-        (λ len. (len ≡ length (canon_binding last)) × (len ≤ most)) }
+// Whether each binding of which these are kept is endOfMibView.
+fn are_ends(names: &[SentName]) -> bool
+    ensures { result ≡ list_all (λ sent. sent.is_end) names.now }
 {
-    encoded_len(&bindings[bindings.len() - 1], most)
+    names.iter().all(|sent| sent.is_end)
 }
 
 // Keeps one place alone where a walk stands, in place of the one that was kept.

@@ -16,8 +16,8 @@
 //! behind a hidden one. A walk stands at a name ([`Stand`]):
 //! at the place of the name among the objects, and knows of those from there on how far the view
 //! shows them whole. Each column of a GetBulk walks by itself. A GetBulk lends its walks one spot, in
-//! which they write where an instance stands; memory for all bindings that can fit is reserved ahead,
-//! and so none is moved once it is made. A [`Shortage`] says for what there was no memory: for a name
+//! which they write where an instance stands; the binding of an instance is encoded at once, behind those
+//! that are to be sent, and of the binding its name alone is kept, from which the next repetition goes on. A [`Shortage`] says for what there was no memory: for a name
 //! above 24 numbers that a binding needs, which is answered genErr with the binding's number (tooBig
 //! where that is too long), or for anything else.
 //!
@@ -54,6 +54,7 @@ mod getting;
 pub mod laws;
 mod nexts;
 mod reading;
+mod sent_name;
 mod sent_reply;
 mod served;
 mod sets;

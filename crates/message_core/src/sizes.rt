@@ -1,13 +1,11 @@
-//! How many octets a binding and a reply have in their shortest encoding.
-ghost use Rattle.std.specs.Prelude.{◌≡◌, ◌≤◌, ◌<◌, ◌+◌, ◌↔◌, length, List, pos, MatchOption};
+//! How many octets a reply has beside its bindings.
+ghost use Rattle.std.specs.Prelude.{◌≡◌, ◌≤◌, ◌+◌, ◌↔◌, length, List, pos};
 ghost use Rattle.ber_core.specs.Encoding.{canon_tlv};
 ghost use Rattle.message_core.specs.Tags as tags;
-ghost use Rattle.message_core.specs.Encodable.{IsEncodableBinding};
-ghost use Rattle.message_core.specs.Canon.{canon_binding, canon_bindings, canon_reply, answer_to};
+ghost use Rattle.message_core.specs.Canon.{canon_bindings, canon_reply, answer_to};
 ghost use Rattle.message_core.specs.declared.binding.Binding.{Binding};
 
-use crate::binding::Binding;
-use crate::lengths::{integer_len, len_within, name_len, tlv_len, value_len};
+use crate::lengths::integer_len;
 use crate::limits::{MAX_COMMUNITY, MAX_REPLY};
 use crate::request::Request;
 use crate::status::ErrorStatus;
@@ -17,24 +15,6 @@ const LONG_HEAD: usize = 4;
 
 // The version of a message (RFC 1901, section 3).
 const VERSION: i32 = 1;
-
-/// The octets of a binding's shortest encoding, where they are at most `most`; else there is no
-/// answer.
-///
-/// `most` is at most `MAX_REPLY`. Takes no memory. The caller ensures that a name can be
-/// encoded.
-pub fn encoded_len(binding: &Binding, most: usize) -> Option<usize>
-    requires encodable { IsEncodableBinding binding.now }
-    requires most { most ≤ MAX_REPLY }
-    ensures { MatchOption result (most < length (canon_binding binding.now)) (λ len.
-        (len ≡ length (canon_binding binding.now)) × (len ≤ most)) }
-{
-    let name = tlv_len(name_len(binding.name.as_slice()));
-    match value_len(&binding.value, most) {
-        None => None,
-        Some(value) => len_within(tlv_len(name + value), most),
-    }
-}
 
 // The octets of a community of at most `MAX_COMMUNITY` octets with its tag and its length.
 #[tactic(auto, using(crate::proofs::Measures::short_tlv, crate::proofs::Measures::middle_tlv))]

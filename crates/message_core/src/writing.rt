@@ -1,14 +1,16 @@
 //! Writes a reply or a request in its shortest encoding (RFC 3417, section 8; X.690).
-ghost use Rattle.std.specs.Prelude.{◌≡◌, ◌<◌, ◌≤◌, ◌^◌, ◌++◌, drop, length, IfOk, OnErr};
+ghost use Rattle.std.specs.Prelude.{◌≡◌, ◌<◌, ◌≤◌, ◌^◌, ◌++◌, drop, length, pos, IfOk, OnErr};
 ghost use Rattle.std.specs.List.{flat_map};
 ghost use Rattle.ber_core.specs.Encoding.{canon_tlv};
 ghost use Rattle.oid_core.specs.Name.{HasRoot, canon_name};
 ghost use Rattle.message_core.specs.Tags as tags;
 ghost use Rattle.message_core.specs.Encodable.{IsEncodableValue, IsEncodableBinding, AreEncodable};
 ghost use Rattle.message_core.specs.Canon.{canon_name_tlv, canon_value, canon_binding, canon_bindings, canon_tail, canon_body, canon_inside, canon_message, canon_reply, canon_request, answer_to};
+ghost use Rattle.message_core.specs.Listed.{listed_bindings};
 ghost use Rattle.ber_core.specs.Writing.{Prepends};
 
 use crate::binding::Binding;
+use crate::encoded::EncodedBindings;
 use crate::limits::{MAX_REPLY, MAX_REQUEST};
 use crate::reply::Reply;
 use crate::request::Request;
@@ -32,7 +34,14 @@ struct Message<'a> {
     first: i32,
     second: i32,
     community: &'a [u8],
-    bindings: &'a [Binding],
+    list: Listed<'a>,
+}
+
+/// The bindings of a message, or their octets.
+#[derive(Drop)]
+enum Listed<'a> {
+    Bindings(&'a [Binding]),
+    Encoded(&'a EncodedBindings),
 }
 
 #[tactic(auto, unfolding(ber_core::specs::Encoding::canon_tlv))]
@@ -72,19 +81,20 @@ pub fn put_value(out: &mut Out<'_>, value: &Value) -> Result<(), BerFault>
     }
 }
 
-/// Writes the shortest encoding of a variable binding (RFC 3416, section 3: VarBind) in front of
-/// what is written.
+/// Writes the shortest encoding of the variable binding of a name and a value (RFC 3416, section 3:
+/// VarBind) in front of what is written.
 ///
 /// `NoRoom` where it does not fit. The caller ensures that a name can be encoded.
 #[tactic(auto, unfolding(ber_core::specs::Encoding::canon_tlv, crate::specs::Canon::canon_binding))]
-pub fn put_binding(out: &mut Out<'_>, binding: &Binding) -> Result<(), BerFault>
-    requires { IsEncodableBinding binding.now }
+pub fn put_instance(out: &mut Out<'_>, name: &Oid, value: &Value) -> Result<(), BerFault>
+    requires { IsEncodableBinding (record { name = name.now; value = value.now }) }
     ensures same_reference { out.new.space.ghost_name ≡ out.old.space.ghost_name }
-    ensures puts { Prepends out.old out.new result (canon_binding binding.now) }
+    ensures puts { Prepends out.old out.new result
+        (canon_binding (record { name = name.now; value = value.now })) }
 {
     let mark = out.len();
-    put_value(out, &binding.value)?;
-    put_oid(out, &binding.name)?;
+    put_value(out, value)?;
+    put_oid(out, name)?;
     let len = out.len() - mark;
     out.put_tlv_head(Tag(tag::SEQUENCE), len)
 }
@@ -97,52 +107,64 @@ fn put_bindings(out: &mut Out<'_>, bindings: &[Binding]) -> Result<(), BerFault>
     let mut i = bindings.len();
     while i > 0 {
         i -= 1;
-        put_binding(out, &bindings[i])?;
+        put_instance(out, &bindings[i].name, &bindings[i].value)?;
     }
     Ok(())
 }
 
+// Writes the content of a list of bindings.
+fn put_listed(out: &mut Out<'_>, list: &Listed<'_>) -> Result<(), BerFault>
+    requires { AreEncodable (listed_bindings list.now) }
+    ensures same_reference { out.new.space.ghost_name ≡ out.old.space.ghost_name }
+    ensures puts { Prepends out.old out.new result (canon_bindings (listed_bindings list.now)) }
+{
+    match list {
+        Listed::Bindings(bindings) => put_bindings(out, bindings),
+        Listed::Encoded(bindings) => out.put_octets(bindings.octets()),
+    }
+}
+
 #[tactic(auto, unfolding(ber_core::specs::Encoding::canon_tlv))]
-fn put_list(out: &mut Out<'_>, bindings: &[Binding]) -> Result<(), BerFault>
-    requires { AreEncodable bindings.now }
+fn put_list(out: &mut Out<'_>, list: &Listed<'_>) -> Result<(), BerFault>
+    requires { AreEncodable (listed_bindings list.now) }
     ensures same_reference { out.new.space.ghost_name ≡ out.old.space.ghost_name }
     ensures puts { Prepends out.old out.new result (canon_tlv tags.sequence
-        (flat_map canon_binding bindings.now)) }
+        (canon_bindings (listed_bindings list.now))) }
 {
     let mark = out.len();
-    put_bindings(out, bindings)?;
+    put_listed(out, list)?;
     let len = out.len() - mark;
     out.put_tlv_head(Tag(tag::SEQUENCE), len)
 }
 
 #[tactic(auto, unfolding(crate::specs::Canon::canon_tail))]
-fn put_tail(out: &mut Out<'_>, second: i32, bindings: &[Binding]) -> Result<(), BerFault>
-    requires { AreEncodable bindings.now }
+fn put_tail(out: &mut Out<'_>, second: i32, list: &Listed<'_>) -> Result<(), BerFault>
+    requires { AreEncodable (listed_bindings list.now) }
     ensures same_reference { out.new.space.ghost_name ≡ out.old.space.ghost_name }
-    ensures puts { Prepends out.old out.new result (canon_tail second bindings.now) }
+    ensures puts { Prepends out.old out.new result (canon_tail second (listed_bindings list.now)) }
 {
-    put_list(out, bindings)?;
+    put_list(out, list)?;
     out.put_i32(Tag(tag::INTEGER), second)
 }
 
 #[tactic(auto, unfolding(crate::specs::Canon::canon_body))]
 fn put_body(out: &mut Out<'_>, message: &Message<'_>) -> Result<(), BerFault>
-    requires { AreEncodable message.now.bindings.now }
+    requires { AreEncodable (listed_bindings message.now.list) }
     ensures same_reference { out.new.space.ghost_name ≡ out.old.space.ghost_name }
     ensures puts { let m = message.now in Prepends out.old out.new result
-        (canon_body m.id m.first m.second m.bindings.now) }
+        (canon_body m.id m.first m.second (listed_bindings m.list)) }
 {
-    put_tail(out, message.second, message.bindings)?;
+    put_tail(out, message.second, &message.list)?;
     out.put_i32(Tag(tag::INTEGER), message.first)?;
     out.put_i32(Tag(tag::INTEGER), message.id)
 }
 
 #[tactic(auto, unfolding(ber_core::specs::Encoding::canon_tlv))]
 fn put_pdu(out: &mut Out<'_>, message: &Message<'_>) -> Result<(), BerFault>
-    requires { AreEncodable message.now.bindings.now }
+    requires { AreEncodable (listed_bindings message.now.list) }
     ensures same_reference { out.new.space.ghost_name ≡ out.old.space.ghost_name }
     ensures puts { let m = message.now in Prepends out.old out.new result (canon_tlv m.tag.0
-        (canon_body m.id m.first m.second m.bindings.now)) }
+        (canon_body m.id m.first m.second (listed_bindings m.list))) }
 {
     let mark = out.len();
     put_body(out, message)?;
@@ -152,10 +174,10 @@ fn put_pdu(out: &mut Out<'_>, message: &Message<'_>) -> Result<(), BerFault>
 
 #[tactic(auto, unfolding(crate::specs::Canon::canon_inside))]
 fn put_inside(out: &mut Out<'_>, message: &Message<'_>) -> Result<(), BerFault>
-    requires { AreEncodable message.now.bindings.now }
+    requires { AreEncodable (listed_bindings message.now.list) }
     ensures same_reference { out.new.space.ghost_name ≡ out.old.space.ghost_name }
     ensures puts { let m = message.now in Prepends out.old out.new result
-        (canon_inside m.community.now m.tag.0 (canon_body m.id m.first m.second m.bindings.now)) }
+        (canon_inside m.community.now m.tag.0 (canon_body m.id m.first m.second (listed_bindings m.list))) }
 {
     put_pdu(out, message)?;
     out.put_tlv(Tag(tag::OCTET_STRING), message.community)?;
@@ -164,10 +186,10 @@ fn put_inside(out: &mut Out<'_>, message: &Message<'_>) -> Result<(), BerFault>
 
 #[tactic(auto, unfolding(ber_core::specs::Encoding::canon_tlv, crate::specs::Canon::canon_message))]
 fn put_message(out: &mut Out<'_>, message: &Message<'_>) -> Result<(), BerFault>
-    requires { AreEncodable message.now.bindings.now }
+    requires { AreEncodable (listed_bindings message.now.list) }
     ensures same_reference { out.new.space.ghost_name ≡ out.old.space.ghost_name }
     ensures puts { let m = message.now in Prepends out.old out.new result
-        (canon_message m.community.now m.tag.0 (canon_body m.id m.first m.second m.bindings.now)) }
+        (canon_message m.community.now m.tag.0 (canon_body m.id m.first m.second (listed_bindings m.list))) }
 {
     let mark = out.len();
     put_inside(out, message)?;
@@ -178,17 +200,17 @@ fn put_message(out: &mut Out<'_>, message: &Message<'_>) -> Result<(), BerFault>
 /// Writes a message to the front of the buffer, and answers how long it is. A message that does not
 /// fit changes nothing there. The space, as long as the buffer, is written on the way.
 fn encode(message: &Message<'_>, space: &mut [u8], buffer: &mut [u8]) -> Result<usize, TooBig>
-    requires names { AreEncodable message.now.bindings.now }
+    requires names { AreEncodable (listed_bindings message.now.list) }
     requires same_len { length space.old ≡ length buffer.old }
     requires small { length buffer.old < 2 ^ 32 }
     ensures ok { let m = message.now in IfOk result (λ n.
         buffer.new ≡ canon_message m.community.now m.tag.0
-        (canon_body m.id m.first m.second m.bindings.now) ++ drop n buffer.old) }
+        (canon_body m.id m.first m.second (listed_bindings m.list)) ++ drop n buffer.old) }
     ensures len { let m = message.now in IfOk result (λ n.
         (n ≡ length (canon_message m.community.now m.tag.0
-        (canon_body m.id m.first m.second m.bindings.now))) × (n ≤ length buffer.old)) }
+        (canon_body m.id m.first m.second (listed_bindings m.list)))) × (n ≤ length buffer.old)) }
     ensures too_big { let m = message.now in OnErr result (length buffer.old < length
-        (canon_message m.community.now m.tag.0 (canon_body m.id m.first m.second m.bindings.now))) }
+        (canon_message m.community.now m.tag.0 (canon_body m.id m.first m.second (listed_bindings m.list)))) }
     ensures unchanged { OnErr result (buffer.new ≡ buffer.old) }
 {
     let mut out = Out::new(space);
@@ -223,7 +245,7 @@ pub fn encode_reply(reply: &Reply, buffer: &mut [u8; MAX_REPLY]) -> Result<usize
         first: reply.status.code(),
         second: reply.index,
         community: reply.community.as_slice(),
-        bindings: reply.bindings.as_slice(),
+        list: Listed::Bindings(reply.bindings.as_slice()),
     };
     encode(&message, &mut [0; MAX_REPLY], buffer)
 }
@@ -259,7 +281,36 @@ pub fn encode_answer(
         first: status.code(),
         second: index,
         community: request.community.as_slice(),
-        bindings,
+        list: Listed::Bindings(bindings),
+    };
+    encode(&message, &mut [0; MAX_REPLY], buffer)
+}
+
+/// Writes the shortest encoding of the reply to a request that has no error, and these bindings, as
+/// `encode_answer` does.
+pub fn encode_no_error(
+    request: &Request,
+    bindings: &EncodedBindings,
+    buffer: &mut [u8; MAX_REPLY],
+) -> Result<usize, TooBig>
+    requires { AreEncodable bindings.now }
+    ensures ok { IfOk result (λ n.
+        buffer.new ≡ canon_reply (answer_to request.now ErrorStatus.NoError (pos 0) bindings.now)
+        ++ drop n buffer.old) }
+    ensures len { IfOk result (λ n.
+        (n ≡ length (canon_reply (answer_to request.now ErrorStatus.NoError (pos 0) bindings.now))) ×
+        (n ≤ MAX_REPLY)) }
+    ensures too_big { OnErr result (MAX_REPLY < length
+        (canon_reply (answer_to request.now ErrorStatus.NoError (pos 0) bindings.now))) }
+    ensures unchanged { OnErr result (buffer.new ≡ buffer.old) }
+{
+    let message = Message {
+        tag: Tag(tag::RESPONSE),
+        id: request.id,
+        first: ErrorStatus::NoError.code(),
+        second: 0,
+        community: request.community.as_slice(),
+        list: Listed::Encoded(bindings),
     };
     encode(&message, &mut [0; MAX_REPLY], buffer)
 }
@@ -283,7 +334,7 @@ pub fn encode_request(request: &Request, buffer: &mut [u8; MAX_REQUEST]) -> Resu
         first: request.first,
         second: request.second,
         community: request.community.as_slice(),
-        bindings: request.bindings.as_slice(),
+        list: Listed::Bindings(request.bindings.as_slice()),
     };
     encode(&message, &mut [0; MAX_REQUEST], buffer)
 }

@@ -11,6 +11,9 @@ use Rattle.agent_core.specs.Lookups.{most_lookups}
 use Rattle.agent_core.proofs.Lackings.{bulk_lacks}
 use Rattle.agent_core.proofs.bulk.get_bulk.Goals as goal
 
+pub binding_number-requires-clause-most : goal.binding_number-requires-clause-most
+binding_number-requires-clause-most g c = omega (arith, c.len-before.ensures.most)
+
 pub returns-clause-answer : goal.returns-clause-answer
 returns-clause-answer g c =
     let rows : List Binding = visible (g.S.View.shows c.args.source.now) (g.S.Successors.instances c.args.source.now) in
@@ -61,7 +64,7 @@ returns-then-is_err-clause-lacks g c =
     let space : c.in_ok-fitting.fitting.space ≡ c.bindings_space.result = ap (λ s. s.space) c.in_ok-fitting.ensures in
     let within : total fitting ≤ c.bindings_space.result = subst (λ r. total fitting ≤ r) (c.send_list-filled.ensures.space ∙ space) c.into_bindings-bindings.ensures.within in
     bulk_lacks (g.S.View.shows c.args.source.now) (g.S.Successors.instances c.args.source.now) c.send_list-filled.result c.args.request.now c.as_slice-asked.result.now c.in_ok-fitting.fitting.bindings fitting
-    c.non_repeaters-once.result c.max_repetitions-most.result c.binding_number.result (length c.as_slice-before.result.now)
+    c.non_repeaters-once.result c.max_repetitions-most.result c.binding_number.result c.len-before.result
     (ap (λ s. s.bindings) c.in_ok-fitting.ensures) c.as_slice-asked.ensures c.non_repeaters-once.ensures.count c.max_repetitions-most.ensures
     (sym c.if-is_err.ensures.value) c.send_list-filled.ensures.lacks ((c.bindings_space.ensures.space fitting).0 within)
-    (ap length (c.as_slice-before.ensures ∙ c.into_bindings-bindings.ensures.value)) c.binding_number.ensures
+    c.len-before.ensures.value c.binding_number.ensures

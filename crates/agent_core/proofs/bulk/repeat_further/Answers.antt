@@ -11,13 +11,13 @@ use Rattle.agent_core.proofs.bulk.repeat_further.Goals as goal
 
 pub returns-then-has_ended-clause-filled : goal.returns-then-has_ended-clause-filled
 returns-then-has_ended-clause-filled g c =
-    further_ended (visible (g.S.View.shows c.args.lookup.source.now) (g.S.Successors.instances c.args.lookup.source.now)) (c.args.most - c.loop-i.i) c.args.fitting.now.space (drop (length c.loop-i.fitting.bindings - c.args.columns) c.loop-i.fitting.bindings) _ c.loop-i.fitting.bindings c.loop-i.invariant.all (ap all_end (sym c.last.ensures.value) ∙ sym c.has_ended.ensures ∙ c.if-has_ended.true)
+    further_ended (visible (g.S.View.shows c.args.lookup.source.now) (g.S.Successors.instances c.args.lookup.source.now)) (c.args.most - c.loop-i.i) c.args.fitting.now.space (drop (length c.loop-i.fitting.bindings - c.args.columns) c.loop-i.fitting.bindings) _ c.loop-i.fitting.bindings c.loop-i.invariant.all (sym c.has_ended.ensures ∙ c.if-has_ended.true)
 
 pub returns-then-not-branch-clause-filled : goal.returns-then-not-branch-clause-filled
 returns-then-not-branch-clause-filled g c =
     let cut : c.in_ok-repeat_last.field-0 ≡ false = search rules in
     repeat_cut (visible (g.S.View.shows c.args.lookup.source.now) (g.S.Successors.instances c.args.lookup.source.now)) (c.args.most - c.loop-i.i) (c.args.most - (c.loop-i.i + 1)) c.repeat_last.new.fitting.space c.args.fitting.now.space (names_of (drop (length c.loop-i.fitting.bindings - c.args.columns) c.loop-i.fitting.bindings)) _ c.loop-i.fitting.bindings c.repeat_last.new.fitting.bindings (omega (arith, c.loop-i-test.true)) (search rules)
-    (further_going (visible (g.S.View.shows c.args.lookup.source.now) (g.S.Successors.instances c.args.lookup.source.now)) (c.args.most - c.loop-i.i) (drop (length c.loop-i.fitting.bindings - c.args.columns) c.loop-i.fitting.bindings) _ c.loop-i.fitting.bindings c.loop-i.invariant.all (ap all_end (sym c.last.ensures.value) ∙ sym c.has_ended.ensures ∙ c.if-has_ended.false)) (c.in_ok-repeat_last.ensures.cut cut)
+    (further_going (visible (g.S.View.shows c.args.lookup.source.now) (g.S.Successors.instances c.args.lookup.source.now)) (c.args.most - c.loop-i.i) (drop (length c.loop-i.fitting.bindings - c.args.columns) c.loop-i.fitting.bindings) _ c.loop-i.fitting.bindings c.loop-i.invariant.all (sym c.has_ended.ensures ∙ c.if-has_ended.false)) (c.in_ok-repeat_last.ensures.cut cut)
 
 pub loop-i-preserved : goal.loop-i-preserved
 loop-i-preserved g c =
@@ -25,7 +25,7 @@ loop-i-preserved g c =
     let is : c.repeat_last.new.fitting.bindings ≡ c.loop-i.fitting.bindings ++ next_answers (visible (g.S.View.shows c.args.lookup.source.now) (g.S.Successors.instances c.args.lookup.source.now)) (names_of (drop (length c.loop-i.fitting.bindings - c.args.columns) c.loop-i.fitting.bindings)) = c.in_ok-repeat_last.ensures.whole whole in
     let count : c.args.columns ≡ length (names_of (drop (length c.loop-i.fitting.bindings - c.args.columns) c.loop-i.fitting.bindings)) = last_names c.loop-i.fitting.bindings c.args.columns c.loop-i.invariant.columns in
     record {
-      all = repeat_more (visible (g.S.View.shows c.args.lookup.source.now) (g.S.Successors.instances c.args.lookup.source.now)) (c.args.most - c.loop-i.i) (c.args.most - (c.loop-i.i + 1)) c.args.columns (names_of (drop (length c.loop-i.fitting.bindings - c.args.columns) c.loop-i.fitting.bindings)) _ c.loop-i.fitting.bindings c.repeat_last.new.fitting.bindings (omega (arith, c.loop-i-test.true)) (further_going (visible (g.S.View.shows c.args.lookup.source.now) (g.S.Successors.instances c.args.lookup.source.now)) (c.args.most - c.loop-i.i) (drop (length c.loop-i.fitting.bindings - c.args.columns) c.loop-i.fitting.bindings) _ c.loop-i.fitting.bindings c.loop-i.invariant.all (ap all_end (sym c.last.ensures.value) ∙ sym c.has_ended.ensures ∙ c.if-has_ended.false)) is count;
+      all = repeat_more (visible (g.S.View.shows c.args.lookup.source.now) (g.S.Successors.instances c.args.lookup.source.now)) (c.args.most - c.loop-i.i) (c.args.most - (c.loop-i.i + 1)) c.args.columns (names_of (drop (length c.loop-i.fitting.bindings - c.args.columns) c.loop-i.fitting.bindings)) _ c.loop-i.fitting.bindings c.repeat_last.new.fitting.bindings (omega (arith, c.loop-i-test.true)) (further_going (visible (g.S.View.shows c.args.lookup.source.now) (g.S.Successors.instances c.args.lookup.source.now)) (c.args.most - c.loop-i.i) (drop (length c.loop-i.fitting.bindings - c.args.columns) c.loop-i.fitting.bindings) _ c.loop-i.fitting.bindings c.loop-i.invariant.all (sym c.has_ended.ensures ∙ c.if-has_ended.false)) is count;
       stands = c.in_ok-repeat_last.ensures.stands;
       space = search rules;
       work = omega (arith, c.loop-i.invariant.work, c.in_ok-repeat_last.ensures.whole_work whole);
@@ -56,5 +56,5 @@ returns-in_err-repeat_last-clause-lacks g c =
     on_err_always c.from_residual.result
     (further_lacks (g.S.View.shows c.args.lookup.source.now) (g.S.Successors.instances c.args.lookup.source.now) c.args.columns (c.args.most - c.loop-i.i) (c.args.most - (c.loop-i.i + 1)) c.args.fitting.now.bindings c.loop-i.fitting.bindings c.repeat_last.new.fitting.bindings _
     c.requires.columns c.loop-i.invariant.grown (omega (arith, c.loop-i-test.true))
-    (further_going (visible (g.S.View.shows c.args.lookup.source.now) (g.S.Successors.instances c.args.lookup.source.now)) (c.args.most - c.loop-i.i) (drop (length c.loop-i.fitting.bindings - c.args.columns) c.loop-i.fitting.bindings) _ c.loop-i.fitting.bindings c.loop-i.invariant.all (ap all_end (sym c.last.ensures.value) ∙ sym c.has_ended.ensures ∙ c.if-has_ended.false))
+    (further_going (visible (g.S.View.shows c.args.lookup.source.now) (g.S.Successors.instances c.args.lookup.source.now)) (c.args.most - c.loop-i.i) (drop (length c.loop-i.fitting.bindings - c.args.columns) c.loop-i.fitting.bindings) _ c.loop-i.fitting.bindings c.loop-i.invariant.all (sym c.has_ended.ensures ∙ c.if-has_ended.false))
     c.in_err-repeat_last.ensures.lacks)

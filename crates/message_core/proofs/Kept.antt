@@ -1,0 +1,65 @@
+-- Bindings that are kept in their shortest encoding.
+use Rattle.std.proofs.Common.{◌≡◌, ℕ, ◌<◌, ◌≤◌, ◌^◌, List, [], ◌∷◌, ◌++◌, length, take, sym, ap, subst, ◌∙◌, append_assoc, arith, rules, ◌+◌}
+use Rattle.std.proofs.lemmas.List.{take-append-le, length-take, length-take-le}
+use Rattle.std.proofs.Math.Seq.{take-append-add}
+use borrow.Rule.Slice.PartMut.{put_mid, post_of}
+use Rattle.std.specs.List.{AllByRecursion}
+use Rattle.message_core.specs.declared.binding.Binding.{Binding}
+use Rattle.message_core.specs.declared.limits.TheConstants.{MAX_REPLY}
+use Rattle.message_core.specs.Canon.{canon_binding, canon_bindings}
+use Rattle.message_core.specs.Encodable.{HasEncoding}
+use Rattle.message_core.specs.Encoded.{or_none, bindings_in, AreShortest}
+use Rattle.message_core.proofs.Readers.{bindings_only}
+use Rattle.message_core.proofs.RoundTrip.{bindings_encode}
+
+-- the shortest encoding of bindings is read as them
+pub in_shortest : (bs : List Binding) → AllByRecursion HasEncoding bs → length (canon_bindings bs) < 2 ^ 32 → bindings_in (canon_bindings bs) ≡ bs
+unfolding bindings_in
+in_shortest bs s len =
+    let same : length (canon_bindings bs) ≤ length (canon_bindings bs) = omega arith in
+    ap or_none (bindings_only (length (canon_bindings bs)) (canon_bindings bs) bs (bindings_encode bs s len) same)
+
+pub shortest_of : (octets : List ℕ) (bs : List Binding) → AllByRecursion HasEncoding bs → length octets < 2 ^ 32 → octets ≡ canon_bindings bs → AreShortest octets
+shortest_of octets bs s len e =
+    let read : bindings_in octets ≡ bs = ap bindings_in e ∙ in_shortest bs s (rw (sym e) len) in
+    record { each = rw read s; shortest = e ∙ ap canon_bindings (sym read) }
+
+pub read_of : (octets : List ℕ) (bs : List Binding) → AllByRecursion HasEncoding bs → length octets < 2 ^ 32 → octets ≡ canon_bindings bs → bindings_in octets ≡ bs
+read_of octets bs s len e = ap bindings_in e ∙ in_shortest bs s (rw (sym e) len)
+
+all_push : (bs : List Binding) (b : Binding) → AllByRecursion HasEncoding bs → HasEncoding b → AllByRecursion HasEncoding (bs ++ b ∷ [])
+all_push [] b s h = (h, tt)
+all_push (x ∷ bs) b s h = (s.0, all_push bs b s.1 h)
+
+pub canon_push : (bs : List Binding) (b : Binding) → canon_bindings (bs ++ b ∷ []) ≡ canon_bindings bs ++ canon_binding b
+canon_push [] b = search rules
+canon_push (x ∷ bs) b = ap (λ o. canon_binding x ++ o) (canon_push bs b) ∙ sym (append_assoc (canon_binding x) (canon_bindings bs) (canon_binding b))
+
+-- the front of a list in whose middle something was written, as far as the front of that goes
+front_put : (a k n : ℕ) (xs ys : List ℕ) → n ≤ length ys → a ≤ length xs → take (a + n) (put_mid a k xs ys) ≡ take a xs ++ take n ys
+front_put a k n xs ys few within =
+    let len : length (take a xs) ≡ a = length-take-le a xs within in
+    subst (λ (m : ℕ). take (m + n) (put_mid a k xs ys) ≡ take a xs ++ take n (ys ++ post_of a k xs)) len (take-append-add (take a xs) (ys ++ post_of a k xs) n)
+    ∙ ap (λ (o : List ℕ). take a xs ++ o) (take-append-le n ys (post_of a k xs) few)
+
+-- the octets of one binding more, written behind those of the bindings that are kept
+more_octets : (a k n : ℕ) (xs ys : List ℕ) (b : Binding) → n ≤ length ys → a ≤ length xs → AreShortest (take a xs) → take n ys ≡ canon_binding b
+    → take (a + n) (put_mid a k xs ys) ≡ canon_bindings (bindings_in (take a xs) ++ b ∷ [])
+more_octets a k n xs ys b few within s e =
+    front_put a k n xs ys few within ∙ ap (λ (o : List ℕ). take a xs ++ o) e
+    ∙ ap (λ (o : List ℕ). o ++ canon_binding b) s.shortest ∙ sym (canon_push (bindings_in (take a xs)) b)
+
+short : (a n : ℕ) (xs : List ℕ) → a + n ≤ MAX_REPLY → length (take (a + n) xs) < 2 ^ 32
+short a n xs most = omega (arith, most, length-take (a + n) xs)
+
+pub more_kept : (a k n : ℕ) (xs ys : List ℕ) (b : Binding) → n ≤ length ys → a ≤ length xs → a + n ≤ MAX_REPLY → AreShortest (take a xs) → HasEncoding b → take n ys ≡ canon_binding b
+    → AreShortest (take (a + n) (put_mid a k xs ys))
+more_kept a k n xs ys b few within most s h e =
+    shortest_of (take (a + n) (put_mid a k xs ys)) (bindings_in (take a xs) ++ b ∷ []) (all_push (bindings_in (take a xs)) b s.each h)
+    (short a n (put_mid a k xs ys) most) (more_octets a k n xs ys b few within s e)
+
+pub more_read : (a k n : ℕ) (xs ys : List ℕ) (b : Binding) → n ≤ length ys → a ≤ length xs → a + n ≤ MAX_REPLY → AreShortest (take a xs) → HasEncoding b → take n ys ≡ canon_binding b
+    → bindings_in (take (a + n) (put_mid a k xs ys)) ≡ bindings_in (take a xs) ++ b ∷ []
+more_read a k n xs ys b few within most s h e =
+    read_of (take (a + n) (put_mid a k xs ys)) (bindings_in (take a xs) ++ b ∷ []) (all_push (bindings_in (take a xs)) b s.each h)
+    (short a n (put_mid a k xs ys) most) (more_octets a k n xs ys b few within s e)

@@ -1,0 +1,106 @@
+//! Bindings that are kept in their shortest encoding.
+ghost use Rattle.std.specs.Prelude.{◌≡◌, ◌≤◌, ◌<◌, ◌^◌, ◌++◌, [], ◌∷◌, length, take, nat_le, IsTrue, false, MatchOption};
+ghost use Rattle.message_core.specs.Encodable.{IsEncodableBinding};
+ghost use Rattle.message_core.specs.Canon.{canon_binding, canon_bindings};
+ghost use Rattle.message_core.specs.declared.limits.TheConstants.{MAX_REPLY};
+
+use crate::limits::MAX_REPLY;
+use crate::ranges::{known_name, known_value};
+use crate::value::Value;
+use crate::writing::put_instance;
+use ber_core::Out;
+use oid_core::Oid;
+use std::marker::Model;
+
+/// Variable bindings in their shortest encoding, one behind the other (RFC 3416, section 3: the content
+/// of a VarBindList), of at most `MAX_REPLY`, 1,472, octets. It takes no memory.
+pub struct EncodedBindings {
+    octets: [u8; MAX_REPLY],
+    len: usize,
+}
+
+// By hand: who drops one then knows nothing of its parts.
+impl Drop for EncodedBindings {
+    fn drop(self) {
+        let EncodedBindings {
+            octets: _octets,
+            len: _len,
+        } = self;
+    }
+}
+
+impl Model for EncodedBindings {
+    ghost use Rattle.std.specs.Prelude.{List, ◌≤◌, take};
+    ghost use Rattle.message_core.specs.declared.binding.Binding.{Binding};
+    ghost use Rattle.message_core.specs.declared.limits.TheConstants.{MAX_REPLY};
+    ghost use Rattle.message_core.specs.Encoded.{bindings_in, AreShortest};
+
+    ghost Value = { List Binding };
+
+    ghost view = { λ e. bindings_in (take e.len e.octets) };
+
+    ghost invariant = { λ e. (e.len ≤ MAX_REPLY) × AreShortest (take e.len e.octets) };
+}
+
+// The length of the shortest encoding of a binding that is written to the front of a slice, where it
+// fits there.
+fn write_front(space: &mut [u8], name: &Oid, value: &Value) -> Option<usize>
+    requires small { length space.old < 2 ^ 32 }
+    requires encodable { IsEncodableBinding (record { name = name.now; value = value.now }) }
+    ensures { let octets = canon_binding (record { name = name.now; value = value.now }) in
+        MatchOption result (length space.old < length octets) (λ len.
+        (len ≡ length octets) × (len ≤ length space.old) × (take len space.new ≡ octets)) }
+{
+    let mut out = Out::new(space);
+    if put_instance(&mut out, name, value).is_err() {
+        return None;
+    }
+    let len = out.len();
+    let start = space.len() - len;
+    space.copy_within(start.., 0);
+    Some(len)
+}
+
+impl EncodedBindings {
+    /// No bindings.
+    pub fn new() -> EncodedBindings
+        ensures { result ≡ [] }
+    {
+        EncodedBindings {
+            octets: [0; MAX_REPLY],
+            len: 0,
+        }
+    }
+
+    /// Adds the binding of a name and a value at the end, where all bindings then have at most `most`
+    /// octets, and says whether it did. `most` is at most `MAX_REPLY`. Takes no memory. The caller
+    /// ensures that a name can be encoded.
+    pub fn push(&mut self, name: &Oid, value: &Value, most: usize) -> bool
+        requires encodable { IsEncodableBinding (record { name = name.now; value = value.now }) }
+        requires most { most ≤ MAX_REPLY }
+        requires within { length (canon_bindings self.old) ≤ most }
+        ensures fits { result ≡ nat_le (length (canon_bindings
+            (self.old ++ record { name = name.now; value = value.now } ∷ []))) most }
+        ensures taken { IsTrue result →
+            self.new ≡ self.old ++ record { name = name.now; value = value.now } ∷ [] }
+        ensures full { result ≡ false → self.new ≡ self.old }
+    {
+        known_name(name);
+        known_value(value);
+        match write_front(&mut self.octets[self.len..most], name, value) {
+            None => false,
+            Some(len) => {
+                self.len += len;
+                true
+            }
+        }
+    }
+
+    /// The octets of the bindings.
+    pub fn octets(&self) -> &[u8]
+        ensures octets { result.now ≡ canon_bindings self.now }
+        ensures most { length result.now ≤ MAX_REPLY }
+    {
+        &self.octets[..self.len]
+    }
+}
