@@ -49,19 +49,25 @@
 //! that a bridge of four ports shows, made by hand as if in use.
 //!
 //! # Where a new kind of setting goes
-//! A kind of key, or of value: `SettingKey` or `SettingValue` of `setting_keys`; `specs/Settings.antt`,
-//! each definition of which goes by those kinds; `World::get_setting` and `put_setting`. A range:
-//! `IsSettingInRange` there, which may depend on the world. A type of variable: [`Writable`],
-//! [`assignment_by`], and `specs/Writing.antt`. The laws of settings are proved by kind in
-//! `proofs/Puts.antt`, that what is tested is legal in `proofs/Ranges.antt`, and that the same
-//! settings are equal in `proofs/Same.antt`. A setting that a device holds: `is_line` of
-//! `specs/Settings.antt`. A put that may take memory: `is_static` there, `HasSpace` of
-//! `specs/Objects.antt`, and `proofs/Space.antt`. Beside these the
-//! timers and the ports of rows that are not there (`specs/Together.antt`, `src/sets.rt`) and what
-//! could not be undone (`src/committing.rt`) go by kinds of keys, and say of a new one that it is
-//! none of theirs. A value may have a type with a model, as a mask has: a slot that is used
-//! again is then handed on by reference, and what is known of an entry that is read from a list is
-//! in `entry_read` of `proofs/Assigns.antt`.
+//! - A kind of key: `SettingKey` of `setting_keys`, and `setting` and `put` of `specs/Settings.antt`, with
+//!   `World::get_setting` and `put_setting`.
+//! - A kind of value: `SettingValue` of `setting_keys`, in the same definitions and calls. A value may have
+//!   a type with a model, as a mask has: a slot that is used again is then handed on by reference, and what
+//!   is known of an entry that is read from a list is in `entry_read` of `proofs/Assigns.antt`.
+//! - A range: `IsSettingInRange` of `specs/Settings.antt`, which may depend on the world. Today a range
+//!   depends on constants or on the number of ports.
+//! - A type of variable: [`Writable`] and [`assignment_by`], with `specs/Writing.antt`.
+//! - A setting that a device holds: `is_line` of `specs/Settings.antt`.
+//! - A put that may take memory: `is_static` there, and `HasSpace` of `specs/Objects.antt`. Today only
+//!   static rows take some (`static_count`, `HasSpaceFor`, `commit_reserved`).
+//!
+//! The compiler or the prover finds what else lacks the new kind: the matches `count_static` and
+//! `timer_after` in `src/sets.rt`, [`Target`] in `src/writable.rt`, and in `proofs/` `Puts` (the laws of
+//! settings, by kind), `Ranges` (what is tested is legal), `Same` (the same settings are equal), `Space`,
+//! `Kept`, `Reserving`, `Equal` and `Firsts`. What has one case for all other kinds has to be checked by
+//! hand, since it says of a new kind that it is none of its own: `put`, `IsSettingInRange`, `HasSpace` and
+//! `makes_row`; the timers and the ports of rows that are not there (`specs/Together.antt`, `src/sets.rt`);
+//! what could not be undone (`src/committing.rt`).
 //!
 //! # Laws
 //! In [`laws`]: the settings of a world are a finite map; of the names of a registry's objects none
