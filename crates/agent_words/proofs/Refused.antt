@@ -1,6 +1,5 @@
 -- What a parse says of the words, and how they are answered.
-use Rattle.std.proofs.Common.{◌≡◌, ◌≢◌, ◌∙◌, ◌⊎◌, List, [], Option, Some, None, Result, Ok, Err, IfErr, inl, inr, refl, sym, subst, true}
-use Rattle.std.specs.Prelude.{IsErrAnd, option_map}
+use Rattle.std.proofs.Common.{◌≡◌, ◌≢◌, ◌∙◌, ◌⊎◌, List, [], Option, Some, None, inl, inr, refl, sym, subst, true}
 use Rattle.clap.specs.Words.{App, HasKind, HasMatchesOf, Row, Text, fault_of, is_simple_and_free, kind_of, subcommand_rows_of}
 use Rattle.clap.specs.declared.error.Error.{Error}
 use Rattle.clap.specs.declared.error.kind.ErrorKind.{ErrorKind}
@@ -24,20 +23,20 @@ asks a words m is matches =
     let h = subst (λ (x : App). HasMatchesOf x words m) is matches simple in
     subst (λ (o : Option (Text × List Row)). asking_in (subcommand_rows_of m) ≡ asking_in o) h.1 refl
 
-pub command_stated : (a : App) (words : List Text) (m : ArgMatches) (asked : Option Asked) (is_asked : Asked) → a ≡ agent_app → (is_simple_and_free a ≡ true → fault_of a words ≡ []) → HasMatchesOf a words m → option_map asked_view asked ≡ asking_in (subcommand_rows_of m) → asked ≡ Some is_asked → IsAsked words is_asked
-command_stated a words m asked is_asked is kinds matches stated some = record {
+pub command_stated : (a : App) (words : List Text) (m : ArgMatches) (asked : Asked) → a ≡ agent_app → (is_simple_and_free a ≡ true → fault_of a words ≡ []) → HasMatchesOf a words m → asking_in (subcommand_rows_of m) ≡ Some (asked_view asked) → IsAsked words asked
+command_stated a words m asked is kinds matches stated = record {
   faultless = faultless a words is kinds;
-  asks = sym (asks a words m is matches) ∙ sym stated ∙ rw some refl;
+  asks = sym (asks a words m is matches) ∙ stated;
 }
 
 -- the matches say nothing
-pub none_stated : (a : App) (words : List Text) (m : ArgMatches) (asked : Option Asked) (e : Error) → a ≡ agent_app → (is_simple_and_free a ≡ true → fault_of a words ≡ []) → HasMatchesOf a words m → option_map asked_view asked ≡ asking_in (subcommand_rows_of m) → asked ≡ None → (kind_of e ≡ kind.OutOfMemory) ⊎ (kind_of e ≡ kind.ValueValidation) → IsRefusal words e
-none_stated a words m asked e is kinds matches stated none (inl wants) = inl wants
-none_stated a words m asked e is kinds matches stated none (inr invalid) = inr (inr (
-  invalid,
+pub none_stated : (a : App) (words : List Text) (m : ArgMatches) (e : Error) → a ≡ agent_app → (is_simple_and_free a ≡ true → fault_of a words ≡ []) → HasMatchesOf a words m → (kind_of e ≡ kind.OutOfMemory) ⊎ ((kind_of e ≡ kind.ValueValidation) × (asking_in (subcommand_rows_of m) ≡ None)) → IsRefusal words e
+none_stated a words m e is kinds matches (inl wants) = inl wants
+none_stated a words m e is kinds matches (inr invalid) = inr (inr (
+  invalid.0,
   record {
     faultless = faultless a words is kinds;
-    none = sym (asks a words m is matches) ∙ sym stated ∙ rw none refl;
+    none = sym (asks a words m is matches) ∙ invalid.1;
   },
 ))
 
@@ -46,11 +45,9 @@ has_kind : (words : List Text) (e : Error) → HasKind (fault_of agent_app words
 has_kind words e (inl wants) = inl wants
 has_kind words e (inr among) = inr (inl among)
 
-pub parse_failed : {T : Type 0} (a : App) (words : List Text) (e : Error) (r : Result T Error) → a ≡ agent_app → (is_simple_and_free a ≡ true → HasKind (fault_of a words) e) → IsErrAnd r (λ f. f ≡ e) → IfErr r (IsRefusal words)
-parse_failed a words e (Ok x) is kinds same = absurd same
-parse_failed a words e (Err f) is kinds same =
-    let k = subst (λ (x : App). is_simple_and_free x ≡ true → HasKind (fault_of x words) e) is kinds free in
-    subst (IsRefusal words) (sym same) (has_kind words e k)
+pub parse_failed : (a : App) (words : List Text) (e : Error) → a ≡ agent_app → (is_simple_and_free a ≡ true → HasKind (fault_of a words) e) → IsRefusal words e
+parse_failed a words e is kinds =
+    has_kind words e (subst (λ (x : App). is_simple_and_free x ≡ true → HasKind (fault_of x words) e) is kinds free)
 
 -- ---- answers
 

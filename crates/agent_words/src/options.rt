@@ -1,6 +1,6 @@
 //! The words of `agentd`, and what its help says of them.
 ghost use Rattle.std.specs.Prelude.{[], codes, IfOk, IsOkAnd};
-ghost use Rattle.clap.specs.Words.{AddsSubcommand};
+ghost use Rattle.clap.specs.Words.{AddsArg, AddsSubcommand};
 ghost use Rattle.agent_words.specs.Options.{config_option, control_option, control_needed, flag_rule, one_word, some_words, file_shape, serve_shape, explain_shape, tell_shape, agent_shape, agent_app};
 ghost use Rattle.agent_words.specs.Built.{IsArgument, HasWords};
 
@@ -87,21 +87,50 @@ or full; 2 if the words are no command, or if POLICYFILE cannot be read.";
 pub(crate) fn agent_command<'a>(alloc: Global) -> Result<Command<'a>, AllocError>
     ensures { IfOk result (HasWords agent_app) }
 {
-    let agent = added(agent_options(alloc), script_command(alloc))?;
-    let agent = added(agent, check_command(alloc))?;
-    let agent = added(agent, serve_command(alloc))?;
-    let agent = added(agent, explain_command(alloc))?;
+    let agent = added(Ok(agent_options(alloc)), script_command(alloc));
+    let agent = added(agent, check_command(alloc));
+    let agent = added(agent, serve_command(alloc));
+    let agent = added(agent, explain_command(alloc));
     added(agent, tell_command(alloc))
 }
 
-// A command with a subcommand more, where that is made.
+// A command with a subcommand more, where both are made.
 fn added<'a>(
-    agent: Command<'a>,
+    agent: Result<Command<'a>, AllocError>,
     subcommand: Result<Command<'a>, AllocError>,
 ) -> Result<Command<'a>, AllocError>
-    ensures { IfOk result (λ r. IsOkAnd subcommand.entry (λ s. AddsSubcommand agent.entry s r)) }
+    ensures { IfOk result (λ r. IsOkAnd agent.entry (λ a.
+        IsOkAnd subcommand.entry (λ s. AddsSubcommand a s r))) }
 {
-    agent.subcommand(subcommand?)
+    match agent {
+        Ok(agent) => match subcommand {
+            Ok(subcommand) => agent.subcommand(subcommand),
+            Err(error) => {
+                drop(agent);
+                Err(error)
+            }
+        },
+        Err(error) => {
+            drop(subcommand);
+            Err(error)
+        }
+    }
+}
+
+// A command with an argument more, where the command is made.
+fn with_argument<'a>(
+    command: Result<Command<'a>, AllocError>,
+    argument: Arg<'a>,
+) -> Result<Command<'a>, AllocError>
+    ensures { IfOk result (λ r. IsOkAnd command.entry (λ c. AddsArg c argument.entry r)) }
+{
+    match command {
+        Ok(command) => command.arg(argument),
+        Err(error) => {
+            drop(argument);
+            Err(error)
+        }
+    }
 }
 
 // What stands in front of a subcommand.
@@ -143,57 +172,62 @@ fn check_command<'a>(alloc: Global) -> Result<Command<'a>, AllocError>
 fn serve_command<'a>(alloc: Global) -> Result<Command<'a>, AllocError>
     ensures { IfOk result (HasWords (record { top = serve_shape; subs = [] })) }
 {
-    file_command(
+    let serve = file_command(
         alloc,
         "serve",
         "Serves the agent of FILE over UDP: its requests and its ports' frames",
         SERVE_HELP,
-    )?
-    .arg(flag(alloc, "forever", "Serve without an end"))?
-    .arg(flag(
+    );
+    let serve = with_argument(serve, flag(alloc, "forever", "Serve without an end"));
+    let audit = flag(
         alloc,
         "audit",
         "Write the audit of each request to standard output; wants --forever",
-    ))?
-    .arg(control_option(alloc))
+    );
+    with_argument(with_argument(serve, audit), control_option(alloc))
 }
 
 // `explain`: what the policy of a file decides on a request.
 fn explain_command<'a>(alloc: Global) -> Result<Command<'a>, AllocError>
     ensures { IfOk result (HasWords (record { top = explain_shape; subs = [] })) }
 {
-    file_command(
+    let explain = file_command(
         alloc,
         "explain",
         "Says what the policy in FILE decides on a request, and by which rows",
         EXPLAIN_HELP,
-    )?
-    .arg(one_word(
+    );
+    let community = one_word(
         alloc,
         "COMMUNITY",
         "The community; behind '--' if it begins with '-'",
-    ))?
-    .arg(one_word(alloc, "REQUEST", "get, next or set"))?
-    .arg(some_words(
+    );
+    let request = one_word(alloc, "REQUEST", "get, next or set");
+    let names = some_words(
         alloc,
         "NAME",
         "An object identifier with dots, as 1.3.6.1.2.1.17.1.2.0",
-    ))
+    );
+    with_argument(
+        with_argument(with_argument(explain, community), request),
+        names,
+    )
 }
 
 // `tell`: a command for a served agent.
 fn tell_command<'a>(alloc: Global) -> Result<Command<'a>, AllocError>
     ensures { IfOk result (HasWords (record { top = tell_shape; subs = [] })) }
 {
-    Command::new(alloc, "tell")
+    let tell = Command::new(alloc, "tell")
         .about("Has the agent that is served with a control socket do a command")
         .after_help(TELL_HELP)
-        .arg(control_needed(alloc))?
-        .arg(some_words(
-            alloc,
-            "COMMAND",
-            "link P up, link P down, policy POLICYFILE, or counts",
-        ))
+        .arg(control_needed(alloc));
+    let words = some_words(
+        alloc,
+        "COMMAND",
+        "link P up, link P down, policy POLICYFILE, or counts",
+    );
+    with_argument(tell, words)
 }
 
 // What is done with a file.

@@ -1,8 +1,10 @@
 //! What the words of the program ask for, or how they are answered.
-ghost use Rattle.std.specs.Prelude.{◌≡◌, ◌⊎◌, map, string_bytes, IfOk, IfErr, OnOk};
-ghost use Rattle.clap.specs.Words.{kind_of};
+ghost use Rattle.std.specs.Prelude.{◌≡◌, ◌⊎◌, map, string_bytes, None, Some, IfOk, IfErr, OnOk};
+ghost use Rattle.clap.specs.Words.{kind_of, subcommand_rows_of};
 ghost use Rattle.clap.specs.declared.error.kind.ErrorKind.TheVariants.{OutOfMemory, ValueValidation};
-ghost use Rattle.agent_words.specs.Asking.{IsAsked};
+ghost use Rattle.agent_words.specs.Options.{agent_app};
+ghost use Rattle.agent_words.specs.Built.{HasWords};
+ghost use Rattle.agent_words.specs.Asking.{IsAsked, asked_view, asking_in};
 ghost use Rattle.agent_words.specs.Answers.{IsText, IsRefusal, IsAnswerTo, IsAnswered};
 
 use crate::asked::Asked;
@@ -53,12 +55,44 @@ fn asked_by<'a>(alloc: Global, words: &'a [String]) -> Result<Asked<'a>, Error>
     ensures asked { IfOk result (IsAsked (map string_bytes words.now)) }
     ensures refused { IfErr result (IsRefusal (map string_bytes words.now)) }
 {
-    let mut agent = agent_command(alloc)?;
-    let matches = agent.try_get_matches_from_mut(words)?;
-    let found = asked_in(alloc, &matches)?;
-    match found {
-        Some(asked) => Ok(asked),
-        None => Err(nothing_asked(&mut agent, mistake_in(&matches))),
+    match agent_command(alloc) {
+        Ok(mut agent) => asked_of(alloc, &mut agent, words),
+        Err(error) => Err(Error::from(error)),
+    }
+}
+
+// What the words ask of this command, or the error of them.
+fn asked_of<'a>(
+    alloc: Global,
+    agent: &mut Command<'a>,
+    words: &'a [String],
+) -> Result<Asked<'a>, Error>
+    requires agent { HasWords agent_app agent.old }
+    ensures asked { IfOk result (IsAsked (map string_bytes words.now)) }
+    ensures refused { IfErr result (IsRefusal (map string_bytes words.now)) }
+{
+    match agent.try_get_matches_from_mut(words) {
+        Ok(matches) => said_by(alloc, agent, &matches),
+        Err(error) => Err(error),
+    }
+}
+
+// What matches ask for, or the error of them where they ask for nothing.
+fn said_by<'a>(
+    alloc: Global,
+    agent: &mut Command<'_>,
+    matches: &ArgMatches<'a>,
+) -> Result<Asked<'a>, Error>
+    ensures asked { IfOk result (λ asked.
+        asking_in (subcommand_rows_of matches.now) ≡ Some (asked_view asked)) }
+    ensures refused { IfErr result (λ error. (kind_of error ≡ OutOfMemory)
+        ⊎ ((kind_of error ≡ ValueValidation)
+        × (asking_in (subcommand_rows_of matches.now) ≡ None))) }
+{
+    match asked_in(alloc, matches) {
+        Ok(Some(asked)) => Ok(asked),
+        Ok(None) => Err(nothing_asked(agent, mistake_in(matches))),
+        Err(error) => Err(Error::from(error)),
     }
 }
 

@@ -1,8 +1,6 @@
-use Rattle.std.proofs.Common.{codes, []}
-use Rattle.std.proofs.lemmas.Result.{IfOk-weaker}
+use Rattle.std.proofs.Common.{codes, [], Ok}
 use Rattle.clap.specs.Words.{App, with_subcommand}
 use Rattle.agent_words.specs.Options.{agent_shape, file_shape, serve_shape, explain_shape, tell_shape}
-use Rattle.agent_words.specs.Built.{HasWords}
 use Rattle.agent_words.proofs.Added.{added}
 use Rattle.agent_words.proofs.options.agent_command.Goals as goal
 
@@ -13,10 +11,10 @@ returns c =
     let check = file_shape (codes "check") in
     let one = with_subcommand none script in
     let two = with_subcommand one check in
-    let h1 = added none script c.agent_options.result c.script_command.result c.in_ok-agent.agent c.agent_options.ensures c.script_command.ensures c.in_ok-agent.ensures in
-    let h2 = added one check c.in_ok-agent.agent c.check_command.result c.in_ok-agent-2.agent h1 c.check_command.ensures c.in_ok-agent-2.ensures in
     let three = with_subcommand two serve_shape in
-    let h3 = added two serve_shape c.in_ok-agent-2.agent c.serve_command.result c.in_ok-agent-3.agent h2 c.serve_command.ensures c.in_ok-agent-3.ensures in
     let four = with_subcommand three explain_shape in
-    let h4 = added three explain_shape c.in_ok-agent-3.agent c.explain_command.result c.in_ok-agent-4.agent h3 c.explain_command.ensures c.in_ok-agent-4.ensures in
-    IfOk-weaker c.added-5.result _ (HasWords (with_subcommand four tell_shape)) (λ n adds. added four tell_shape c.in_ok-agent-4.agent c.tell_command.result n h4 c.tell_command.ensures adds) c.added-5.ensures
+    let h1 = added none script (Ok c.agent_options.result) c.script_command.result c.added-agent.result c.agent_options.ensures c.script_command.ensures c.added-agent.ensures in
+    let h2 = added one check c.added-agent.result c.check_command.result c.added-agent-2.result h1 c.check_command.ensures c.added-agent-2.ensures in
+    let h3 = added two serve_shape c.added-agent-2.result c.serve_command.result c.added-agent-3.result h2 c.serve_command.ensures c.added-agent-3.ensures in
+    let h4 = added three explain_shape c.added-agent-3.result c.explain_command.result c.added-agent-4.result h3 c.explain_command.ensures c.added-agent-4.ensures in
+    added four tell_shape c.added-agent-4.result c.tell_command.result c.added.result h4 c.tell_command.ensures c.added.ensures
