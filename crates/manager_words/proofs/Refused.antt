@@ -1,6 +1,5 @@
 -- What a parse says of the words, and how the words end.
-use Rattle.std.proofs.Common.{◌≡◌, ◌≢◌, ◌∙◌, ◌⊎◌, ◌≤◌, ℕ, List, [], Option, Result, Ok, Err, IfErr, inl, inr, refl, sym, subst, true}
-use Rattle.std.specs.Prelude.{IsErrAnd}
+use Rattle.std.proofs.Common.{◌≡◌, ◌≢◌, ◌∙◌, ◌⊎◌, ◌≤◌, ℕ, List, [], Option, inl, inr, refl, sym, subst, true}
 use Rattle.clap.specs.Words.{App, HasKind, HasMatchesOf, Row, Text, fault_of, found_of, is_simple_and_free, kind_of, matches_of, rows_of, subcommand_of, subcommand_rows_of}
 use Rattle.clap.specs.declared.error.Error.{Error}
 use Rattle.clap.specs.declared.error.kind.ErrorKind.{ErrorKind}
@@ -38,29 +37,32 @@ stated_by a words m c is matches command =
     let h = same_matches a words m is matches simple in
     subst (λ (t : List Row). IsStated t (subcommand_rows_of m) c) (sym h.0) (subst (λ (o : Option (Text × List Row)). IsStated (matches_of manager_app words) o c) (sym h.1) command.stated)
 
--- the matches say no command
-pub none_stated : (a : App) (words : List Text) (m : ArgMatches) (fault : WordsFault) (e : Error) → a ≡ manager_app → (is_simple_and_free a ≡ true → fault_of a words ≡ []) → HasMatchesOf a words m → (fault ≢ Memory → (c : Command) → ¬ IsStated (rows_of (found_of m)) (subcommand_rows_of m) c) → (fault ≡ Memory → kind_of e ≡ kind.OutOfMemory) → (kind_of e ≡ kind.OutOfMemory) ⊎ (kind_of e ≡ kind.ValueValidation) → IsRefusal words e
-none_stated a words m fault e is kinds matches none memory (inl wants) = inl wants
-none_stated a words m fault e is kinds matches none memory (inr invalid) =
+-- a fault that is no want of memory
+pub nothing_said : (fault : WordsFault) (e : Error) (Is : Command → Type 0) → (fault ≢ Memory → (c : Command) → ¬ Is c) → (fault ≡ Memory → kind_of e ≡ kind.OutOfMemory) → (kind_of e ≡ kind.OutOfMemory) ⊎ (kind_of e ≡ kind.ValueValidation) → (kind_of e ≡ kind.OutOfMemory) ⊎ ((kind_of e ≡ kind.ValueValidation) × ((c : Command) → ¬ Is c))
+nothing_said fault e Is none memory (inl wants) = inl wants
+nothing_said fault e Is none memory (inr invalid) =
     let other : fault ≢ Memory = λ same. let wants = memory same in cc in
-    inr (inr (
-      invalid,
-      record {
-        faultless = faultless a words is kinds;
-        none = λ c command. none other c (stated_by a words m c is matches command);
-      },
-    ))
+    inr (invalid, none other)
+
+-- the matches say no command
+pub none_stated : (a : App) (words : List Text) (m : ArgMatches) (e : Error) → a ≡ manager_app → (is_simple_and_free a ≡ true → fault_of a words ≡ []) → HasMatchesOf a words m → (kind_of e ≡ kind.OutOfMemory) ⊎ ((kind_of e ≡ kind.ValueValidation) × ((c : Command) → ¬ IsStated (rows_of (found_of m)) (subcommand_rows_of m) c)) → IsRefusal words e
+none_stated a words m e is kinds matches (inl wants) = inl wants
+none_stated a words m e is kinds matches (inr invalid) = inr (inr (
+  invalid.0,
+  record {
+    faultless = faultless a words is kinds;
+    none = λ c command. invalid.1 c (stated_by a words m c is matches command);
+  },
+))
 
 -- a parse that fails
 has_kind : (words : List Text) (e : Error) → HasKind (fault_of manager_app words) e → IsRefusal words e
 has_kind words e (inl wants) = inl wants
 has_kind words e (inr among) = inr (inl among)
 
-pub parse_failed : {T : Type 0} (a : App) (words : List Text) (e : Error) (r : Result T Error) → a ≡ manager_app → (is_simple_and_free a ≡ true → HasKind (fault_of a words) e) → IsErrAnd r (λ f. f ≡ e) → IfErr r (IsRefusal words)
-parse_failed a words e (Ok x) is kinds same = absurd same
-parse_failed a words e (Err f) is kinds same =
-    let k = subst (λ (x : App). is_simple_and_free x ≡ true → HasKind (fault_of x words) e) is kinds free in
-    subst (IsRefusal words) (sym same) (has_kind words e k)
+pub parse_failed : (a : App) (words : List Text) (e : Error) → a ≡ manager_app → (is_simple_and_free a ≡ true → HasKind (fault_of a words) e) → IsRefusal words e
+parse_failed a words e is kinds =
+    has_kind words e (subst (λ (x : App). is_simple_and_free x ≡ true → HasKind (fault_of x words) e) is kinds free)
 
 -- ---- kinds
 

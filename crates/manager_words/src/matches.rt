@@ -19,7 +19,7 @@ use std::net::SocketAddr;
 pub const DEFAULT_TRIES: u32 = 3;
 
 /// The name of a request.
-#[derive(Clone, Copy, Debug, PartialEq, Eq)]
+#[derive(Clone, Copy)]
 pub(crate) enum Word {
     /// `get`: the values under names.
     Get,

@@ -1,6 +1,6 @@
 //! The words of a manager, and what its help says of them.
 ghost use Rattle.std.specs.Prelude.{[], codes, IfOk, IsOkAnd};
-ghost use Rattle.clap.specs.Words.{AddsSubcommand};
+ghost use Rattle.clap.specs.Words.{AddsArg, AddsSubcommand};
 ghost use Rattle.manager_words.specs.Options.{one_word, some_words, bulk_number, tries_option, request_shape, names_shape, bulk_shape, walk_shape, set_shape, manager_shape, manager_app};
 ghost use Rattle.manager_words.specs.Built.{IsArgument, HasWords};
 
@@ -17,22 +17,53 @@ const NEXT_HELP: &str = "Prints the first instance behind each name";
 pub(crate) fn manager_command<'a>(alloc: Global) -> Result<Command<'a>, AllocError>
     ensures { IfOk result (HasWords manager_app) }
 {
-    let manager = manager_options(alloc)?;
-    let manager = added(manager, names_command(alloc, "get", GET_HELP))?;
-    let manager = added(manager, names_command(alloc, "next", NEXT_HELP))?;
-    let manager = added(manager, bulk_command(alloc))?;
-    let manager = added(manager, walk_command(alloc))?;
+    let manager = added(
+        manager_options(alloc),
+        names_command(alloc, "get", GET_HELP),
+    );
+    let manager = added(manager, names_command(alloc, "next", NEXT_HELP));
+    let manager = added(manager, bulk_command(alloc));
+    let manager = added(manager, walk_command(alloc));
     added(manager, set_command(alloc))
 }
 
-// A command with a request more, where that is made.
+// A command with a request more, where both are made.
 fn added<'a>(
-    manager: Command<'a>,
+    manager: Result<Command<'a>, AllocError>,
     request: Result<Command<'a>, AllocError>,
 ) -> Result<Command<'a>, AllocError>
-    ensures { IfOk result (λ r. IsOkAnd request.entry (λ s. AddsSubcommand manager.entry s r)) }
+    ensures { IfOk result (λ r. IsOkAnd manager.entry (λ m.
+        IsOkAnd request.entry (λ s. AddsSubcommand m s r))) }
 {
-    manager.subcommand(request?)
+    match manager {
+        Ok(manager) => match request {
+            Ok(request) => manager.subcommand(request),
+            Err(error) => {
+                drop(manager);
+                Err(error)
+            }
+        },
+        Err(error) => {
+            drop(request);
+            Err(error)
+        }
+    }
+}
+
+// A command with an argument more, where the command is made.
+fn with_argument<'a>(
+    command: Result<Command<'a>, AllocError>,
+    argument: Arg<'a>,
+) -> Result<Command<'a>, AllocError>
+    ensures { IfOk result (λ r. IsOkAnd command.entry (λ c. AddsArg c argument.entry r)) }
+{
+    match command {
+        Ok(command) => command.arg(argument),
+        Err(error) => {
+            drop(argument);
+            Err(error)
+        }
+    }
 }
 
 // What stands in front of a request.
@@ -56,50 +87,53 @@ fn names_command<'a>(
 ) -> Result<Command<'a>, AllocError>
     ensures { IfOk result (HasWords (record { top = names_shape name.entry.now; subs = [] })) }
 {
-    request_command(alloc, name, about)?.arg(names(alloc))
+    with_argument(request_command(alloc, name, about), names(alloc))
 }
 
 // `bulk`: two numbers, and names.
 fn bulk_command<'a>(alloc: Global) -> Result<Command<'a>, AllocError>
     ensures { IfOk result (HasWords (record { top = bulk_shape; subs = [] })) }
 {
-    request_command(alloc, "bulk", "Prints what a GetBulk answers")?
-        .arg(bulk_number(
-            alloc,
-            "N",
-            "Non-repeaters: so many names, from the first, are asked for once, 0 to 2147483647",
-        ))?
-        .arg(bulk_number(
-            alloc,
-            "M",
-            "Max-repetitions: how often the other names are asked for, 0 to 2147483647",
-        ))?
-        .arg(names(alloc))
+    let bulk = request_command(alloc, "bulk", "Prints what a GetBulk answers");
+    let first = bulk_number(
+        alloc,
+        "N",
+        "Non-repeaters: so many names, from the first, are asked for once, 0 to 2147483647",
+    );
+    let second = bulk_number(
+        alloc,
+        "M",
+        "Max-repetitions: how often the other names are asked for, 0 to 2147483647",
+    );
+    with_argument(
+        with_argument(with_argument(bulk, first), second),
+        names(alloc),
+    )
 }
 
 // `walk`: the root of a subtree.
 fn walk_command<'a>(alloc: Global) -> Result<Command<'a>, AllocError>
     ensures { IfOk result (HasWords (record { top = walk_shape; subs = [] })) }
 {
-    request_command(alloc, "walk", "Prints all instances below a name")?.arg(one_word(
-        alloc, "NAME", NAME_HELP,
-    ))
+    let walk = request_command(alloc, "walk", "Prints all instances below a name");
+    with_argument(walk, one_word(alloc, "NAME", NAME_HELP))
 }
 
 // `set`: settings.
 fn set_command<'a>(alloc: Global) -> Result<Command<'a>, AllocError>
     ensures { IfOk result (HasWords (record { top = set_shape; subs = [] })) }
 {
-    request_command(
+    let set = request_command(
         alloc,
         "set",
         "Sets values, and prints what the agent answers",
-    )?
-    .arg(some_words(
+    );
+    let settings = some_words(
         alloc,
         "SETTING",
         "NAME=i:NUMBER for an INTEGER, NAME=x:HEX for an OCTET STRING",
-    ))
+    );
+    with_argument(set, settings)
 }
 
 // What each request has: the tries, the agent and the community.
@@ -110,19 +144,20 @@ fn request_command<'a>(
 ) -> Result<Command<'a>, AllocError>
     ensures { IfOk result (HasWords (record { top = request_shape name.entry.now []; subs = [] })) }
 {
-    Command::new(alloc, name)
+    let request = Command::new(alloc, name)
         .about(about)
-        .arg(tries_option(alloc))?
-        .arg(one_word(
-            alloc,
-            "ADDRESS",
-            "The agent's address and port, as 127.0.0.1:161 or [::1]:161",
-        ))?
-        .arg(one_word(
-            alloc,
-            "COMMUNITY",
-            "The community, up to 255 octets; behind '--' if it begins with '-'",
-        ))
+        .arg(tries_option(alloc));
+    let address = one_word(
+        alloc,
+        "ADDRESS",
+        "The agent's address and port, as 127.0.0.1:161 or [::1]:161",
+    );
+    let community = one_word(
+        alloc,
+        "COMMUNITY",
+        "The community, up to 255 octets; behind '--' if it begins with '-'",
+    );
+    with_argument(with_argument(request, address), community)
 }
 
 /// What help says of a name.

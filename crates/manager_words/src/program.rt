@@ -1,17 +1,19 @@
 //! The manager as a program: words, a wire and two writers give an exit status.
 ghost use Rattle.std.specs.Prelude.{◌≡◌, ◌≤◌, ◌≢◌, ◌⊎◌, map, string_bytes, IfOk, IfErr};
-ghost use Rattle.clap.specs.Words.{kind_of};
+ghost use Rattle.clap.specs.Words.{kind_of, subcommand_rows_of};
 ghost use Rattle.clap.specs.declared.error.kind.ErrorKind.TheVariants.{OutOfMemory, ValueValidation};
 ghost use Rattle.manager_core.specs.Runs.{IsAskable};
 ghost use Rattle.manager_words.specs.declared.fault.WordsFault.TheVariants.{Memory};
-ghost use Rattle.manager_words.specs.Requests.{IsCommand};
+ghost use Rattle.manager_words.specs.Options.{manager_app};
+ghost use Rattle.manager_words.specs.Built.{HasWords};
+ghost use Rattle.manager_words.specs.Requests.{IsCommand, IsStated, rows_in};
 ghost use Rattle.manager_words.specs.Runs.{IsText, IsRefusal, HasDone};
 
 use crate::fault::WordsFault;
 use crate::matches::command_in;
 use crate::options::manager_command;
-use clap::Error;
 use clap::error::ErrorKind;
+use clap::{ArgMatches, Error};
 use manager_core::{Command, FAILED, Failure, ManagerFault, report, run_command};
 use std::alloc::{AllocError, Global};
 use std::io::Write;
@@ -53,11 +55,44 @@ pub fn command_of(alloc: Global, words: &[String]) -> Result<Command, Error>
     ensures refused { IfErr result (IsRefusal (map string_bytes words.now)) }
     ensures askable { IfOk result (λ c. IsAskable c.errand) }
 {
-    let mut manager = manager_command(alloc)?;
-    let matches = manager.try_get_matches_from_mut(words)?;
-    match command_in(alloc, &matches) {
+    match manager_command(alloc) {
+        Ok(mut manager) => command_by(alloc, &mut manager, words),
+        Err(error) => Err(Error::from(error)),
+    }
+}
+
+// What the words ask of this command, or the error of them.
+fn command_by<'a>(
+    alloc: Global,
+    manager: &mut clap::Command<'a>,
+    words: &'a [String],
+) -> Result<Command, Error>
+    requires manager { HasWords manager_app manager.old }
+    ensures read { IfOk result (IsCommand (map string_bytes words.now)) }
+    ensures refused { IfErr result (IsRefusal (map string_bytes words.now)) }
+    ensures askable { IfOk result (λ c. IsAskable c.errand) }
+{
+    match manager.try_get_matches_from_mut(words) {
+        Ok(matches) => command_said(alloc, manager, &matches),
+        Err(error) => Err(error),
+    }
+}
+
+// The command that matches say, or the error of them.
+fn command_said(
+    alloc: Global,
+    manager: &mut clap::Command<'_>,
+    matches: &ArgMatches<'_>,
+) -> Result<Command, Error>
+    ensures read { IfOk result (IsStated (rows_in matches.now) (subcommand_rows_of matches.now)) }
+    ensures refused { IfErr result (λ error. (kind_of error ≡ OutOfMemory)
+        ⊎ ((kind_of error ≡ ValueValidation) × ((c : _)
+        → ¬ IsStated (rows_in matches.now) (subcommand_rows_of matches.now) c))) }
+    ensures askable { IfOk result (λ c. IsAskable c.errand) }
+{
+    match command_in(alloc, matches) {
         Ok(command) => Ok(command),
-        Err(fault) => Err(error_of(alloc, &mut manager, fault)),
+        Err(fault) => Err(error_of(alloc, manager, fault)),
     }
 }
 

@@ -1,11 +1,21 @@
 use Rattle.std.proofs.Common.{codes}
 use Rattle.message_core.specs.declared.request.Kind.TheVariants as kind
 use Rattle.clap.specs.Words.{one_of}
-use Rattle.manager_words.specs.Requests.{AreNames, IsBulkOf, rows_in}
+use Rattle.manager_words.specs.Requests.{AreNames, IsBulkNumber, IsBulkOf, rows_in}
 use Rattle.manager_words.proofs.Asks.{asks_of, bulk_asks, one_names}
 use Rattle.manager_words.proofs.Given.{bulk_kept}
 use Rattle.manager_words.proofs.Passed.{passed}
 use Rattle.manager_words.proofs.matches.bulk_of.Goals as goal
+
+pub returns-in_err-first-clause-read : goal.returns-in_err-first-clause-read
+returns-in_err-first-clause-read c =
+    let rows = rows_in c.args.request.now in
+    passed (IsBulkNumber (one_of (codes "N") rows)) (IsBulkOf c.args.community rows) (λ e is. (is.first, is.is_first)) c.in_err-first.field-0.0 c.from_residual.result c.in_err-first.ensures c.from_residual.ensures.1
+
+pub returns-in_err-second-clause-read : goal.returns-in_err-second-clause-read
+returns-in_err-second-clause-read c =
+    let rows = rows_in c.args.request.now in
+    passed (IsBulkNumber (one_of (codes "M") rows)) (IsBulkOf c.args.community rows) (λ e is. (is.second, is.is_second)) c.in_err-second.field-0.0 c.from_residual-in_err-second.result c.in_err-second.ensures c.from_residual-in_err-second.ensures.1
 
 pub returns-in_err-bindings-clause-read : goal.returns-in_err-bindings-clause-read
 returns-in_err-bindings-clause-read c =

@@ -1,12 +1,16 @@
 use Rattle.std.proofs.Common.{codes, []}
-use Rattle.std.proofs.lemmas.Result.{IfOk-weaker}
-use Rattle.manager_words.specs.Options.{bulk_number, bulk_shape, some_words}
-use Rattle.manager_words.specs.Built.{HasWords}
-use Rattle.manager_words.proofs.Worded.{ruled}
+use Rattle.clap.specs.Words.{App, with_rule}
+use Rattle.manager_words.specs.Options.{bulk_number, request_shape, some_words}
+use Rattle.manager_words.proofs.Added.{taking}
 use Rattle.manager_words.proofs.options.bulk_command.Goals as goal
 
 pub returns : goal.returns
 returns c =
-    let h1 = ruled _ (bulk_number (codes "N")) c.in_ok-request_command.field-0 c.bulk_number.result c.in_ok-arg.field-0 c.in_ok-request_command.ensures c.bulk_number.ensures c.in_ok-arg.ensures in
-    let h2 = ruled _ (bulk_number (codes "M")) c.in_ok-arg.field-0 c.bulk_number-2.result c.in_ok-arg-2.field-0 h1 c.bulk_number-2.ensures c.in_ok-arg-2.ensures in
-    IfOk-weaker c.arg-3.result _ (HasWords (record { top = bulk_shape; subs = [] })) (λ n adds. ruled _ (some_words (codes "NAME")) c.in_ok-arg-2.field-0 c.names.result n h2 c.names.ensures adds) c.arg-3.ensures
+    let none : App = record { top = request_shape (codes "bulk") []; subs = [] } in
+    let first = bulk_number (codes "N") in
+    let second = bulk_number (codes "M") in
+    let one = with_rule none first in
+    let two = with_rule one second in
+    let h1 = taking none first c.request_command-bulk.result c.bulk_number-first.result c.with_argument.result c.request_command-bulk.ensures c.bulk_number-first.ensures c.with_argument.ensures in
+    let h2 = taking one second c.with_argument.result c.bulk_number-second.result c.with_argument-2.result h1 c.bulk_number-second.ensures c.with_argument-2.ensures in
+    taking two (some_words (codes "NAME")) c.with_argument-2.result c.names.result c.with_argument-3.result h2 c.names.ensures c.with_argument-3.ensures

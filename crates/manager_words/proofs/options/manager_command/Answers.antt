@@ -1,8 +1,6 @@
 use Rattle.std.proofs.Common.{codes, []}
-use Rattle.std.proofs.lemmas.Result.{IfOk-weaker}
 use Rattle.clap.specs.Words.{App, with_subcommand}
 use Rattle.manager_words.specs.Options.{names_shape, bulk_shape, walk_shape, set_shape, manager_shape}
-use Rattle.manager_words.specs.Built.{HasWords}
 use Rattle.manager_words.proofs.Added.{added}
 use Rattle.manager_words.proofs.options.manager_command.Goals as goal
 
@@ -15,8 +13,8 @@ returns c =
     let two = with_subcommand one next in
     let three = with_subcommand two bulk_shape in
     let four = with_subcommand three walk_shape in
-    let h1 = added none get c.in_ok-manager.manager c.names_command.result c.in_ok-manager-2.manager c.in_ok-manager.ensures c.names_command.ensures c.in_ok-manager-2.ensures in
-    let h2 = added one next c.in_ok-manager-2.manager c.names_command-2.result c.in_ok-manager-3.manager h1 c.names_command-2.ensures c.in_ok-manager-3.ensures in
-    let h3 = added two bulk_shape c.in_ok-manager-3.manager c.bulk_command.result c.in_ok-manager-4.manager h2 c.bulk_command.ensures c.in_ok-manager-4.ensures in
-    let h4 = added three walk_shape c.in_ok-manager-4.manager c.walk_command.result c.in_ok-manager-5.manager h3 c.walk_command.ensures c.in_ok-manager-5.ensures in
-    IfOk-weaker c.added-5.result _ (HasWords (with_subcommand four set_shape)) (λ n adds. added four set_shape c.in_ok-manager-5.manager c.set_command.result n h4 c.set_command.ensures adds) c.added-5.ensures
+    let h1 = added none get c.manager_options.result c.names_command.result c.added-manager.result c.manager_options.ensures c.names_command.ensures c.added-manager.ensures in
+    let h2 = added one next c.added-manager.result c.names_command-2.result c.added-manager-2.result h1 c.names_command-2.ensures c.added-manager-2.ensures in
+    let h3 = added two bulk_shape c.added-manager-2.result c.bulk_command.result c.added-manager-3.result h2 c.bulk_command.ensures c.added-manager-3.ensures in
+    let h4 = added three walk_shape c.added-manager-3.result c.walk_command.result c.added-manager-4.result h3 c.walk_command.ensures c.added-manager-4.ensures in
+    added four set_shape c.added-manager-4.result c.set_command.result c.added.result h4 c.set_command.ensures c.added.ensures
