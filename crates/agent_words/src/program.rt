@@ -72,13 +72,13 @@ fn asked_of<'a>(
     ensures refused { IfErr result (IsRefusal (map string_bytes words.now)) }
 {
     match agent.try_get_matches_from_mut(words) {
-        Ok(matches) => said_by(alloc, agent, &matches),
+        Ok(matches) => asked_of_matches(alloc, agent, &matches),
         Err(error) => Err(error),
     }
 }
 
 // What matches ask for, or the error of them where they ask for nothing.
-fn said_by<'a>(
+fn asked_of_matches<'a>(
     alloc: Global,
     agent: &mut Command<'_>,
     matches: &ArgMatches<'a>,

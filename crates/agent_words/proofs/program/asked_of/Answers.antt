@@ -15,6 +15,6 @@ returns-in-Ok c =
     let a = app_of c.args.agent.now in
     let h = c.in-Ok.ensures in
     record {
-      asked = MatchResult-weaker c.said_by.result c.said_by.ensures.asked (λ asked said. command_stated a words c.in-Ok.matches asked c.requires.agent.words h.kinds h.ok.2 said) (λ _ t. t);
-      refused = MatchResult-weaker c.said_by.result c.said_by.ensures.refused (λ _ t. t) (λ e said. none_stated a words c.in-Ok.matches e c.requires.agent.words h.kinds h.ok.2 said);
+      asked = MatchResult-weaker c.asked_of_matches.result c.asked_of_matches.ensures.asked (λ asked stated. command_stated a words c.in-Ok.matches asked c.requires.agent.words h.kinds h.ok.2 stated) (λ _ t. t);
+      refused = MatchResult-weaker c.asked_of_matches.result c.asked_of_matches.ensures.refused (λ _ t. t) (λ e stated. none_stated a words c.in-Ok.matches e c.requires.agent.words h.kinds h.ok.2 stated);
     }
