@@ -38,9 +38,9 @@ stated_by a words m c is matches command =
     subst (λ (t : List Row). IsStated t (subcommand_rows_of m) c) (sym h.0) (subst (λ (o : Option (Text × List Row)). IsStated (matches_of manager_app words) o c) (sym h.1) command.stated)
 
 -- a fault that is no want of memory
-pub nothing_said : (fault : WordsFault) (e : Error) (Is : Command → Type 0) → (fault ≢ Memory → (c : Command) → ¬ Is c) → (fault ≡ Memory → kind_of e ≡ kind.OutOfMemory) → (kind_of e ≡ kind.OutOfMemory) ⊎ (kind_of e ≡ kind.ValueValidation) → (kind_of e ≡ kind.OutOfMemory) ⊎ ((kind_of e ≡ kind.ValueValidation) × ((c : Command) → ¬ Is c))
-nothing_said fault e Is none memory (inl wants) = inl wants
-nothing_said fault e Is none memory (inr invalid) =
+pub no_command : (fault : WordsFault) (e : Error) (Is : Command → Type 0) → (fault ≢ Memory → (c : Command) → ¬ Is c) → (fault ≡ Memory → kind_of e ≡ kind.OutOfMemory) → (kind_of e ≡ kind.OutOfMemory) ⊎ (kind_of e ≡ kind.ValueValidation) → (kind_of e ≡ kind.OutOfMemory) ⊎ ((kind_of e ≡ kind.ValueValidation) × ((c : Command) → ¬ Is c))
+no_command fault e Is none memory (inl wants) = inl wants
+no_command fault e Is none memory (inr invalid) =
     let other : fault ≢ Memory = λ same. let wants = memory same in cc in
     inr (invalid, none other)
 

@@ -73,13 +73,13 @@ fn command_by<'a>(
     ensures askable { IfOk result (λ c. IsAskable c.errand) }
 {
     match manager.try_get_matches_from_mut(words) {
-        Ok(matches) => command_said(alloc, manager, &matches),
+        Ok(matches) => command_of_matches(alloc, manager, &matches),
         Err(error) => Err(error),
     }
 }
 
 // The command that matches say, or the error of them.
-fn command_said(
+fn command_of_matches(
     alloc: Global,
     manager: &mut clap::Command<'_>,
     matches: &ArgMatches<'_>,

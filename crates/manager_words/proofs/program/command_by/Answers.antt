@@ -15,7 +15,7 @@ returns-in-Ok c =
     let a = app_of c.args.manager.now in
     let h = c.in-Ok.ensures in
     record {
-      read = MatchResult-weaker c.command_said.result c.command_said.ensures.read (λ command said. command_stated a words c.in-Ok.matches command c.requires.manager.words h.kinds h.ok.2 said) (λ _ t. t);
-      refused = MatchResult-weaker c.command_said.result c.command_said.ensures.refused (λ _ t. t) (λ e said. none_stated a words c.in-Ok.matches e c.requires.manager.words h.kinds h.ok.2 said);
-      askable = c.command_said.ensures.askable;
+      read = MatchResult-weaker c.command_of_matches.result c.command_of_matches.ensures.read (λ command stated. command_stated a words c.in-Ok.matches command c.requires.manager.words h.kinds h.ok.2 stated) (λ _ t. t);
+      refused = MatchResult-weaker c.command_of_matches.result c.command_of_matches.ensures.refused (λ _ t. t) (λ e stated. none_stated a words c.in-Ok.matches e c.requires.manager.words h.kinds h.ok.2 stated);
+      askable = c.command_of_matches.ensures.askable;
     }
