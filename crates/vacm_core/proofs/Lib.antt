@@ -11,6 +11,7 @@ pub mod FrontNames
 pub mod Ways
 pub mod FamilyWays
 pub mod Unbeaten
+pub mod Better
 pub mod Indexes
 pub mod GroupRows
 pub mod ViewRows

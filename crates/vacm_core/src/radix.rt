@@ -133,6 +133,7 @@ impl Radix {
                 }
             }
             Radix::Fork(node) => {
+                let node: &mut Branch = node;
                 node.loose = node.loose || !step.counts;
                 if step.part < node.part {
                     node.less.mark(way);
@@ -159,6 +160,7 @@ impl Radix {
                 run.below.clear();
             }
             Radix::Fork(node) => {
+                let node: &mut Branch = node;
                 node.loose = false;
                 node.loose_equal = false;
                 node.less.clear();
@@ -214,6 +216,7 @@ pub fn packed(alloc: Global, tree: &Tree) -> Result<Radix, AllocError>
     let Tree::Fork(node) = tree else {
         return Ok(Radix::Empty);
     };
+    let node: &Node = node;
     let equal = packed(alloc, &node.equal)?;
     if node.is_alone() {
         return run_on(alloc, node.part, equal);

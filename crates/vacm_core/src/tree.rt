@@ -71,6 +71,7 @@ impl Tree {
                 Ok(())
             }
             Tree::Fork(node) => {
+                let node: &mut Node = node;
                 node.loose = node.loose || !step.counts;
                 if step.part < node.part {
                     node.less.insert(alloc, way, row)
