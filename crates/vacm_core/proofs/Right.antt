@@ -17,7 +17,7 @@ use Rattle.vacm_core.specs.declared.tables.AccessRow.{AccessRow}
 use Rattle.vacm_core.specs.declared.tables.FamilyRow.{FamilyRow}
 use Rattle.vacm_core.specs.declared.tables.GroupRow.{GroupRow}
 use Rattle.vacm_core.specs.declared.written.VacmRows.{VacmRows}
-use Rattle.vacm_core.specs.Faults.{TakesMemory}
+use Rattle.vacm_core.specs.Faults.{AreRightBefore, IsFirstIn, IsFault, TakesMemory}
 use Rattle.vacm_core.specs.Rows.{group_rules, access_rules, family_rules, group_row, access_row, family_row}
 use Rattle.vacm_core.specs.Rules.{Rules, has_earlier, wrong_of, wrong_at, by_itself, StopsAt, AreRead, AreRight, IsFirstWrong, IsFirstFault, BeginsRight}
 use Rattle.vacm_core.specs.Repeats.{repeats, repeats_at, IsFirstRepeat}
@@ -233,6 +233,11 @@ module _ {W R : Type 0} (rules : Rules W R) (written yielded rest : List W) (lef
 begins_where_right : {W R : Type 0} (rules : Rules W R) (ws : List W) → AreRight rules ws → 0 < length ws → BeginsRight rules ws
 begins_where_right rules [] right some = absurd (omega arith)
 begins_where_right rules (w ∷ ws) right some = right 0
+
+-- the first row at fault of a table, where nothing is wrong with those before, is the first fault
+pub first_fault : (rows : VacmRows) (table : VacmTable) (fault : TableFault VacmTable) (place : ℕ) (wrong : Wrong)
+    → fault ≡ Row table place wrong → AreRightBefore table rows → IsFirstIn table rows place wrong → IsFault rows fault
+first_fault rows table fault place wrong is before first = subst (IsFault rows) (sym is) (before, first)
 
 -- where there is a group row, and nothing is wrong with them, memory may be lacking
 pub group_memory : {X : Type 0} (rows : VacmRows) (result : Result X (TableFault VacmTable)) (kept : List GroupRow)

@@ -5,7 +5,9 @@ use Rattle.vacm_core.specs.Keys.{IsIndex, group_key, access_key}
 use Rattle.vacm_core.specs.Rows.{family_rules, same_family}
 use Rattle.vacm_core.specs.Tables.{KeysDiffer}
 use Rattle.vacm_core.proofs.Sound.{keys_differ, sound}
-use Rattle.vacm_core.proofs.Right.{group_memory, access_memory, tree_memory}
+use Rattle.std.proofs.lemmas.Result.{err_from_is_err_and}
+use Rattle.vacm_core.specs.declared.fault.VacmTable.TheVariants.{Groups, Access, Families, Contexts}
+use Rattle.vacm_core.proofs.Right.{first_fault, group_memory, access_memory, tree_memory}
 use Rattle.vacm_core.proofs.vacm.Vacm.new.Goals as goal
 
 pub new-requires : goal.new-requires
@@ -33,3 +35,43 @@ invariant_of-result c = (
   subst (λ (rows : List GroupRow). IsIndex group_key rows c.in_ok-group_index.group_index) c.as_slice.ensures c.in_ok-group_index.ensures.index,
   subst (λ (rows : List AccessRow). IsIndex access_key rows c.in_ok-access_index.access_index) c.as_slice-2.ensures c.in_ok-access_index.ensures.index,
 )
+
+pub returns-in_err-groups-clause-fault : goal.returns-in_err-groups-clause-fault
+returns-in_err-groups-clause-fault c =
+    let p = err_from_is_err_and c.from_residual.result c.from_residual.ensures.1 in
+    rw (p.1, p.2) (λ other. let f = c.in_err-groups.ensures.fault other in first_fault c.args.rows Groups _ f.place f.wrong f.is tt f.first)
+
+pub returns-in_err-groups-clause-memory : goal.returns-in_err-groups-clause-memory
+returns-in_err-groups-clause-memory c =
+    let p = err_from_is_err_and c.from_residual.result c.from_residual.ensures.1 in
+    rw (p.1, p.2) (λ lacking. record { table = Groups; before = tt; begins = c.in_err-groups.ensures.memory lacking })
+
+pub returns-in_err-access-clause-fault : goal.returns-in_err-access-clause-fault
+returns-in_err-access-clause-fault c =
+    let p = err_from_is_err_and c.from_residual-in_err-access.result c.from_residual-in_err-access.ensures.1 in
+    rw (p.1, p.2) (λ other. let f = c.in_err-access.ensures.fault other in first_fault c.args.rows Access _ f.place f.wrong f.is c.in_ok-groups.ensures.right f.first)
+
+pub returns-in_err-access-clause-memory : goal.returns-in_err-access-clause-memory
+returns-in_err-access-clause-memory c =
+    let p = err_from_is_err_and c.from_residual-in_err-access.result c.from_residual-in_err-access.ensures.1 in
+    rw (p.1, p.2) (λ lacking. record { table = Access; before = c.in_ok-groups.ensures.right; begins = c.in_err-access.ensures.memory lacking })
+
+pub returns-in_err-families-clause-fault : goal.returns-in_err-families-clause-fault
+returns-in_err-families-clause-fault c =
+    let p = err_from_is_err_and c.from_residual-in_err-families.result c.from_residual-in_err-families.ensures.1 in
+    rw (p.1, p.2) (λ other. let f = c.in_err-families.ensures.fault other in first_fault c.args.rows Families _ f.place f.wrong f.is (c.in_ok-groups.ensures.right, c.in_ok-access.ensures.right) f.first)
+
+pub returns-in_err-families-clause-memory : goal.returns-in_err-families-clause-memory
+returns-in_err-families-clause-memory c =
+    let p = err_from_is_err_and c.from_residual-in_err-families.result c.from_residual-in_err-families.ensures.1 in
+    rw (p.1, p.2) (λ lacking. record { table = Families; before = (c.in_ok-groups.ensures.right, c.in_ok-access.ensures.right); begins = c.in_err-families.ensures.memory lacking })
+
+pub returns-in_err-contexts-clause-fault : goal.returns-in_err-contexts-clause-fault
+returns-in_err-contexts-clause-fault c =
+    let p = err_from_is_err_and c.from_residual-in_err-contexts.result c.from_residual-in_err-contexts.ensures.1 in
+    rw (p.1, p.2) (λ other. let f = c.in_err-contexts.ensures.fault other in first_fault c.args.rows Contexts _ f.place f.wrong f.is (c.in_ok-groups.ensures.right, c.in_ok-access.ensures.right, c.in_ok-families.ensures.right) f.first)
+
+pub returns-in_err-contexts-clause-memory : goal.returns-in_err-contexts-clause-memory
+returns-in_err-contexts-clause-memory c =
+    let p = err_from_is_err_and c.from_residual-in_err-contexts.result c.from_residual-in_err-contexts.ensures.1 in
+    rw (p.1, p.2) (λ lacking. record { table = Contexts; before = (c.in_ok-groups.ensures.right, c.in_ok-access.ensures.right, c.in_ok-families.ensures.right); begins = c.in_err-contexts.ensures.memory lacking })
