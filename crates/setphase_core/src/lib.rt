@@ -49,25 +49,33 @@
 //! that a bridge of four ports shows, made by hand as if in use.
 //!
 //! # Where a new kind of setting goes
-//! - A kind of key: `SettingKey` of `setting_keys`, and `setting` and `put` of `specs/Settings.antt`, with
-//!   `World::get_setting` and `put_setting`.
-//! - A kind of value: `SettingValue` of `setting_keys`, in the same definitions and calls. A value may have
-//!   a type with a model, as a mask has: a slot that is used again is then handed on by reference, and what
-//!   is known of an entry that is read from a list is in `entry_read` of `proofs/Assigns.antt`.
-//! - A range: `IsSettingInRange` of `specs/Settings.antt`, which may depend on the world. Today a range
-//!   depends on constants or on the number of ports.
-//! - A type of variable: [`Writable`] and [`assignment_by`], with `specs/Writing.antt`.
-//! - A setting that a device holds: `is_line` of `specs/Settings.antt`.
-//! - A put that may take memory: `is_static` there, and `HasSpace` of `specs/Objects.antt`. Today only
-//!   static rows take some (`static_count`, `HasSpaceFor`, `commit_reserved`).
+//! A further setting of the bridge or of a port is no new kind, but a `Key` of `rstp_settings`.
+//! - A kind of key: `SettingKey` of `setting_keys`; here `HasSetting`, `setting` and `put` of
+//!   `specs/Settings.antt`, and `World::get_setting` and `put_setting`. If the setting stands elsewhere than
+//!   in the bridge's settings, its static rows or the marks of families, also `same_settings_of` and
+//!   `with_settings_of` there, and a clause of `laws::equal_on_every_key`.
+//! - A kind of value: `SettingValue` of `setting_keys`, and `same_value` of `specs/Settings.antt`. It is
+//!   `Copy`, and has a default. It may have a type with a model, as a mask has: a slot that is used again is
+//!   then handed on by reference, and what is known of an entry that is read from a list is in `entry_read`
+//!   of `proofs/Assigns.antt`.
+//! - A range: `IsSettingInRange` of `specs/Settings.antt`. It may depend on what no put changes, today on
+//!   the number of ports. What depends on another setting is no range, but a joint refusal, as that of the
+//!   timers: `joint_refusals` of `specs/Together.antt`.
+//! - A type of variable: [`Writable`] and [`assignment_by`], with `writable_of` of `specs/Writing.antt`, which
+//!   says by column how an object is written. A further INTEGER is a [`Target`].
+//! - A setting that a device holds: `is_line` of `specs/Settings.antt`. Devices hold settings of the bridge
+//!   alone, and so do the notes of a Set.
+//! - A put that may take memory: `HasSpace` of `specs/Objects.antt`. If it brings in a static row, `is_static`
+//!   of `specs/Settings.antt` is all that is wanted. Other memory is counted beside `static_count`, and
+//!   reserved in `commit_reserved`.
 //!
-//! The compiler or the prover finds what else lacks the new kind: the matches `count_static` and
-//! `timer_after` in `src/sets.rt`, [`Target`] in `src/writable.rt`, and in `proofs/` `Puts` (the laws of
-//! settings, by kind), `Ranges` (what is tested is legal), `Same` (the same settings are equal), `Space`,
-//! `Kept`, `Reserving`, `Equal` and `Firsts`. What has one case for all other kinds has to be checked by
-//! hand, since it says of a new kind that it is none of its own: `put`, `IsSettingInRange`, `HasSpace` and
-//! `makes_row`; the timers and the ports of rows that are not there (`specs/Together.antt`, `src/sets.rt`);
-//! what could not be undone (`src/committing.rt`).
+//! The compiler or the prover finds the matches over all kinds: `count_static`, `timer_after` and `lacks_row`
+//! in `src/sets.rt`, `put_line` in `src/committing.rt`, and in `proofs/` the cases of `Puts` (the laws of
+//! settings), `Ranges` (what is tested is legal), `Same` (the same settings are equal), `Space`, `Kept`,
+//! `Reserving`, `Equal` and `Firsts`. It does not find these: that a key has no [`Target`] or [`Writable`],
+//! or that an object is not in `columns` of `specs/Names.antt`; the one case for all others of `is_timer`
+//! (`specs/Together.antt`), `makes_row` (`specs/Writing.antt`, `src/static_limit.rt`) and `number_given`
+//! (`specs/Writing.antt`; [`Target`]); a column that `writable_of` leaves out, which is then read-only.
 //!
 //! # Laws
 //! In [`laws`]: the settings of a world are a finite map; of the names of a registry's objects none
