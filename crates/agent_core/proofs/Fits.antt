@@ -180,20 +180,6 @@ names-behind (suc n) [] i j d e = refl
 names-behind (suc n) (b ∷ bs) i zero d e = absurd (omega (arith, e))
 names-behind (suc n) (b ∷ bs) i (suc j) d e = names-behind n bs i j d (omega (arith, e))
 
-names-inside : (bs : List Binding) (i : ℕ) (d e : List ℕ) → i < length bs → get_or (names_of bs) i d ≡ get_or (names_of bs) i e
-names-inside [] i d e h = absurd (omega (arith, h))
-names-inside (b ∷ bs) zero d e h = refl
-names-inside (b ∷ bs) (suc i) d e h = names-inside bs i d e (omega (arith, h))
-
--- the first of the last so many bindings
-pub first_name : (bs : List Binding) (n : ℕ) (row : List Binding) (b : Binding) → 1 ≤ n → n ≤ length bs → row ≡ drop (length bs - n) bs → b ≡ get_or row 0 b →
-    b.name ≡ get_or (names_of bs) (length bs - n) []
-first_name bs n row b some within is at =
-    let there : 0 < length row = omega (arith, some, within, ap length is, length-drop (length bs - n) bs) in
-    names-at row 0 b there at ∙ ap (λ r. get_or (names_of r) 0 b.name) is
-    ∙ sym (names-behind (length bs - n) bs 0 (length bs - n) b.name (omega arith))
-    ∙ names-inside bs (length bs - n) b.name [] (omega (arith, some, within))
-
 -- the names of the last so many bindings
 pub last_names : (bs : List Binding) (n : ℕ) → n ≤ length bs → n ≡ length (names_of (drop (length bs - n) bs))
 last_names bs n within = omega (arith, within, names-length (drop (length bs - n) bs), length-drop (length bs - n) bs)

@@ -16,8 +16,3 @@ pub read_more : (request : Request) (result : Result ReadReply AllocError) (octe
     IfOk result (λ (read : ReadReply). IsSentRead reply request lacks read octets) → IfOk result (λ (read : ReadReply). IsSentRead other request lacks_too read octets)
 read_more request (Ok read) octets same more h = sent_more request read.unnamed read.sent octets _ _ _ _ same more h
 read_more request (Err e) octets same more h = h
-
--- what holds of a value, by what holds of it
-pub ok_more : {A E : Type 0} (result : Result A E) (P Q : A → Type 0) → ((a : A) → P a → Q a) → IfOk result P → IfOk result Q
-ok_more (Ok a) P Q more h = more a h
-ok_more (Err e) P Q more h = h

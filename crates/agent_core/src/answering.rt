@@ -1,12 +1,12 @@
 //! Answers a request: the decision, the reply by its kind, the audit (RFC 3416, 4.2).
-ghost use Rattle.std.specs.Prelude.{◌≡◌, ◌≢◌, ◌≤◌, ◌<◌, [], None, Some, true, length, pos, IfOk, IfErr, OnErr};
-ghost use Rattle.message_core.specs.Canon.{canon_reply, answer_to};
+ghost use Rattle.std.specs.Prelude.{◌≡◌, ◌≢◌, ◌≤◌, ◌<◌, [], None, Some, true, length, IfOk, IfErr, OnErr};
+ghost use Rattle.message_core.specs.Canon.{canon_reply};
 ghost use Rattle.message_core.specs.Encodable.{AreEncodable};
 ghost use Rattle.message_core.specs.declared.limits.TheConstants.{MAX_COMMUNITY};
 ghost use Rattle.vacm_core.specs.Families.{in_view};
 ghost use Rattle.decision.specs.Deciding.{decision_on};
 ghost use Rattle.setphase_core.specs.Registry.{rows_of, prefixes_of, instances};
-ghost use Rattle.agent_core.specs.Replies.{kind_reply, reply_within_limit, failure_reply, name_failure_reply};
+ghost use Rattle.agent_core.specs.Replies.{kind_reply, failure_reply, name_failure_reply};
 ghost use Rattle.agent_core.specs.Denying.{denied_in};
 ghost use Rattle.agent_core.specs.Answers.{IsSent, IsSentRead, IsSentBy, IsRead, IsStep, drop_audit, reply_audit, with_count_of};
 ghost use Rattle.agent_core.specs.Lacking.{LacksNameOf, IfName};
@@ -298,7 +298,8 @@ fn send_read<O: MibObject, L: Ledger>(
     send_kind(alloc, &served, request, buffer, &mut steps)
 }
 
-// Puts the answers to a request, by its kind, into the buffer, from any source and under any view.
+// What is known of the answer to a request that reads, which is put into the buffer, from any source and
+// under any view; or for what there was no memory.
 fn put_read<S: Source<L>, L: Ledger>(
     alloc: Global,
     source: &S,

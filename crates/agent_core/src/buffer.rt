@@ -118,11 +118,11 @@ impl Buffer {
         sent
     }
 
-    /// Puts the reply to a request in that has no error, or tooBig without bindings where that is too
-    /// long, and says what was put. Takes no memory.
+    /// Puts the reply to a request with noError and these bindings in, or tooBig without bindings where
+    /// that is too long, and says what was put (RFC 3416, 4.2.3). What `get_bulk` gives always fits. Takes
+    /// no memory.
     pub(crate) fn put_encoded(&mut self, request: &Request, bindings: &EncodedBindings) -> SentReply
-        requires community { length request.now.community ≤ MAX_COMMUNITY }
-        requires encodable { AreEncodable bindings.now }
+        requires { length request.now.community ≤ MAX_COMMUNITY }
         ensures sent { IsSent (reply_within_limit
             (answer_to request.now ErrorStatus.NoError (pos 0) bindings.now)) result self.new.reply }
         ensures bpdus { self.new.bpdus ≡ self.old.bpdus }
@@ -204,8 +204,7 @@ fn put_encoded_sized(
     bindings: &EncodedBindings,
     octets: &mut [u8; MAX_REPLY],
 ) -> SentReply
-    requires community { length request.now.community ≤ MAX_COMMUNITY }
-    requires encodable { AreEncodable bindings.now }
+    requires { length request.now.community ≤ MAX_COMMUNITY }
     ensures sent { IsSent (reply_within_limit
         (answer_to request.now ErrorStatus.NoError (pos 0) bindings.now))
         result (take result.length octets.new) }
@@ -217,7 +216,7 @@ fn put_encoded_sized(
             status: ErrorStatus::NoError,
             index: 0,
         },
-        Err(_) => SentReply {
+        Err(TooBig) => SentReply {
             length: put_too_big(request, octets),
             status: ErrorStatus::TooBig,
             index: 0,

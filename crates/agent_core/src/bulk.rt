@@ -8,7 +8,7 @@ ghost use Rattle.message_core.specs.Instances.{names_of};
 ghost use Rattle.agent_core.specs.Reading.{visible, next_answer, next_answers};
 ghost use Rattle.agent_core.specs.Lookups.{most_lookups, LacksName};
 ghost use Rattle.agent_core.specs.Lacking.{IsLacking, LacksBulkName, IfName, bulk_names, binding_number};
-ghost use Rattle.agent_core.specs.Bulk.{all_end, repetitions, further, bulk_list, count_of, asked_list};
+ghost use Rattle.agent_core.specs.Bulk.{repetitions, further, bulk_list, count_of, asked_list};
 ghost use Rattle.agent_core.specs.Sending.{kept, AreStands};
 ghost use Rattle.agent_core.specs.Fitting.{fitting_front, fit_into, most_successors, IsFilled};
 ghost use Rattle.message_core.specs.declared.binding.Binding.{Binding};
@@ -443,7 +443,7 @@ fn binding_number(once: usize, columns: usize, before: usize) -> usize
 /// # Errors
 /// `Shortage::Name` with the number of the binding of which a member of the list is asked that is to be
 /// sent next, and for which a name above `INLINE_NUMBERS`, 24, numbers was made; `Shortage::Other` ahead
-/// of any lookup, where there is no memory for the list.
+/// of any lookup, where there is no memory for the names of the list.
 pub fn get_bulk<S: Successors<L>, L: Ledger>(
     alloc: Global,
     source: &S,

@@ -23,7 +23,7 @@ use std::marker::Model;
 pub const MAX_STANDS: usize = 16;
 
 // How many octets a binding has at least: its head, and the heads of its name and its value.
-const SHORTEST_BINDING: usize = 6;
+const LEAST_BINDING: usize = 6;
 
 /// The bindings of a GetBulk's reply so far, and the octets that they may have (RFC 3416, 4.2.3: as
 /// many as fit).
@@ -61,9 +61,9 @@ impl Model for FittingBindings {
 }
 
 impl FittingBindings {
-    /// No bindings, and a buffer for so many octets. A repetition has so many columns: where walks
-    /// stand is kept for as many bindings. Memory for the names of as many bindings as can fit, and for
-    /// one more, is reserved: so adding one takes none.
+    /// No bindings, which may have `space` octets, at most `MAX_REPLY`. Where walks stand is kept for the
+    /// last `columns` bindings, for one at least and for `MAX_STANDS` at most. Memory for the names of as
+    /// many bindings as can fit, and for one more, is reserved: so adding one takes none.
     ///
     /// # Errors
     /// `AllocError` where there is no such memory.
@@ -78,7 +78,7 @@ impl FittingBindings {
     {
         Ok(FittingBindings {
             bindings: EncodedBindings::new(),
-            names: Vec::with_capacity(alloc, space / SHORTEST_BINDING + 1)?,
+            names: Vec::with_capacity(alloc, space / LEAST_BINDING + 1)?,
             stands: ArrayVec::new(),
             most_stands: columns.min(MAX_STANDS).max(1),
             space,
@@ -86,7 +86,8 @@ impl FittingBindings {
     }
 
     /// Adds the binding of a name and a value where it fits (RFC 3416, 4.2.3), and says whether it
-    /// did. With it is kept where a walk stands at its name. It takes no memory.
+    /// did. With it is kept where a walk stands at its name. It takes no memory. The caller ensures that
+    /// the binding has an encoding.
     pub fn offer(&mut self, name: Oid, value: &Value, stand: Stand) -> bool
         requires { IsEncodableBinding (record { name = name; value = value.now }) }
         ensures taken { IsTrue result →
@@ -97,6 +98,7 @@ impl FittingBindings {
         ensures fits { result ≡ fit_into self.old.space
             (self.old.bindings ++ record { name = name; value = value.now } ∷ []) }
         ensures space { self.new.space ≡ self.old.space }
+        ensures most_stands { self.new.most_stands ≡ self.old.most_stands }
     {
         if !self.bindings.push(&name, value, self.space) {
             return false;
@@ -115,7 +117,7 @@ impl FittingBindings {
         self.names.len()
     }
 
-    /// The name of the binding so many places back, 1 for the last.
+    /// The name of the binding so many places back, 1 for the last, at most `len`.
     pub fn name(&self, back: usize) -> &Oid
         requires some { 1 ≤ back }
         requires there { back ≤ length self.now.bindings }
@@ -126,7 +128,7 @@ impl FittingBindings {
         &self.names[self.names.len() - back].name
     }
 
-    /// Whether each of the last so many bindings is endOfMibView: those of one repetition.
+    /// Whether each of the last so many bindings, at most `len`, is endOfMibView: those of one repetition.
     pub fn has_ended(&self, count: usize) -> bool
         requires { count ≤ length self.now.bindings }
         ensures { result ≡ all_end (drop (length self.now.bindings - count) self.now.bindings) }

@@ -16,10 +16,10 @@
 //! behind a hidden one. A walk stands at a name ([`Stand`]):
 //! at the place of the name among the objects, and knows of those from there on how far the view
 //! shows them whole. Each column of a GetBulk walks by itself. A GetBulk lends its walks one spot, in
-//! which they write where an instance stands; the binding of an instance is encoded at once, behind those
-//! that are to be sent, and of the binding its name alone is kept, from which the next repetition goes on. A [`Shortage`] says for what there was no memory: for a name
-//! above 24 numbers that a binding needs, which is answered genErr with the binding's number (tooBig
-//! where that is too long), or for anything else.
+//! which they write where an instance stands. Each binding is encoded at once, behind those that are to be
+//! sent; of it are kept its name, from which the next repetition goes on, and whether it is endOfMibView.
+//! A [`Shortage`] says for what there was no memory: for a name above 24 numbers that a binding needs, which
+//! is answered genErr with the binding's number (tooBig where that is too long), or for anything else.
 //!
 //! # Definitions
 //! `specs/Answers.antt`: what objects show of a world, and the step; `specs/Replies.antt`: replies
@@ -27,8 +27,9 @@
 //! is visible, Get and GetNext; `specs/Lookups.antt`: the lookups that a successor takes, and for
 //! which names it takes memory; `specs/Lacking.antt`: for which binding that is;
 //! `specs/Bulk.antt`, `specs/Fitting.antt`: GetBulk; `specs/Denying.antt`: denied bindings;
-//! `specs/Buffered.antt`: what a buffer holds; `specs/Sending.antt`: bindings that are to be sent,
-//! and their octets; `specs/Standing.antt`: where a walk stands, and what it knows of a view there.
+//! `specs/Buffered.antt`: what a buffer holds; `specs/Sending.antt`: a GetBulk's bindings that
+//! are to be sent, what is kept of each, and where walks stand; `specs/Standing.antt`: where a walk
+//! stands, and what it knows of a view there.
 //!
 //! # Laws
 //! In [`laws`]: where no memory is wanting, replies depend on nothing but what is visible, those of Get also on the objects and
@@ -40,7 +41,8 @@
 //! # Not claimed
 //! That memory was refused where want of it is answered or noted; of objects whose devices take no
 //! plans, which calls of a Set failed, and so which variable is reported as failed; that a name is made
-//! of a hidden instance by which a binding is noted, or that a name's want of memory is noted at all;
+//! of a hidden instance by which a binding is noted, or that a name's want of memory is noted at all, or
+//! for which of several long names memory was refused;
 //! what is passed over, and how often `answer` asks for a successor, or asks the view.
 #![tactic(auto)]
 

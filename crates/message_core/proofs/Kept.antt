@@ -7,13 +7,13 @@ use Rattle.std.specs.List.{AllByRecursion}
 use Rattle.message_core.specs.declared.binding.Binding.{Binding}
 use Rattle.message_core.specs.declared.limits.TheConstants.{MAX_REPLY}
 use Rattle.message_core.specs.Canon.{canon_binding, canon_bindings}
-use Rattle.message_core.specs.Encodable.{HasEncoding}
+use Rattle.message_core.specs.Encodable.{HasEncoding, AreEncodable}
 use Rattle.message_core.specs.Encoded.{or_none, bindings_in, AreShortest}
 use Rattle.message_core.proofs.Readers.{bindings_only}
 use Rattle.message_core.proofs.RoundTrip.{bindings_encode}
 
 -- the shortest encoding of bindings is read as them
-pub in_shortest : (bs : List Binding) → AllByRecursion HasEncoding bs → length (canon_bindings bs) < 2 ^ 32 → bindings_in (canon_bindings bs) ≡ bs
+in_shortest : (bs : List Binding) → AllByRecursion HasEncoding bs → length (canon_bindings bs) < 2 ^ 32 → bindings_in (canon_bindings bs) ≡ bs
 unfolding bindings_in
 in_shortest bs s len =
     let same : length (canon_bindings bs) ≤ length (canon_bindings bs) = omega arith in
@@ -27,11 +27,15 @@ shortest_of octets bs s len e =
 pub read_of : (octets : List ℕ) (bs : List Binding) → AllByRecursion HasEncoding bs → length octets < 2 ^ 32 → octets ≡ canon_bindings bs → bindings_in octets ≡ bs
 read_of octets bs s len e = ap bindings_in e ∙ in_shortest bs s (rw (sym e) len)
 
+pub all_encodable : (bs : List Binding) → AllByRecursion HasEncoding bs → AreEncodable bs
+all_encodable [] s = tt
+all_encodable (b ∷ bs) s = (s.0.encodable, all_encodable bs s.1)
+
 all_push : (bs : List Binding) (b : Binding) → AllByRecursion HasEncoding bs → HasEncoding b → AllByRecursion HasEncoding (bs ++ b ∷ [])
 all_push [] b s h = (h, tt)
 all_push (x ∷ bs) b s h = (s.0, all_push bs b s.1 h)
 
-pub canon_push : (bs : List Binding) (b : Binding) → canon_bindings (bs ++ b ∷ []) ≡ canon_bindings bs ++ canon_binding b
+canon_push : (bs : List Binding) (b : Binding) → canon_bindings (bs ++ b ∷ []) ≡ canon_bindings bs ++ canon_binding b
 canon_push [] b = search rules
 canon_push (x ∷ bs) b = ap (λ o. canon_binding x ++ o) (canon_push bs b) ∙ sym (append_assoc (canon_binding x) (canon_bindings bs) (canon_binding b))
 

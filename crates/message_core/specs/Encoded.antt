@@ -15,7 +15,8 @@ or_none (Err cause) = []
 unfoldable pub bindings_in : List ℕ → List Binding
 bindings_in octets = or_none (bindings_at (length octets) octets)
 
--- Octets that are the shortest encoding of bindings.
+-- Octets that are the shortest encoding of bindings. Octets that encode no list are none such: they are
+-- taken for no bindings, whose encoding has no octets.
 pub record AreShortest (octets : List ℕ) : Type 0 where
   pub each : AllByRecursion HasEncoding (bindings_in octets)
   pub shortest : octets ≡ canon_bindings (bindings_in octets)

@@ -1,13 +1,13 @@
 //! Bindings that are kept in their shortest encoding.
 ghost use Rattle.std.specs.Prelude.{◌≡◌, ◌≤◌, ◌<◌, ◌^◌, ◌++◌, [], ◌∷◌, length, take, nat_le, IsTrue, false, MatchOption};
-ghost use Rattle.message_core.specs.Encodable.{IsEncodableBinding};
+ghost use Rattle.message_core.specs.Encodable.{IsEncodableBinding, AreEncodable};
 ghost use Rattle.message_core.specs.Canon.{canon_binding, canon_bindings};
 ghost use Rattle.message_core.specs.declared.limits.TheConstants.{MAX_REPLY};
 
 use crate::limits::MAX_REPLY;
 use crate::ranges::{known_name, known_value};
 use crate::value::Value;
-use crate::writing::put_instance;
+use crate::writing::put_binding;
 use ber_core::Out;
 use oid_core::Oid;
 use std::marker::Model;
@@ -43,7 +43,7 @@ impl Model for EncodedBindings {
 }
 
 // The length of the shortest encoding of a binding that is written to the front of a slice, where it
-// fits there.
+// fits there. Where it does not, the slice may hold anything.
 fn write_front(space: &mut [u8], name: &Oid, value: &Value) -> Option<usize>
     requires small { length space.old < 2 ^ 32 }
     requires encodable { IsEncodableBinding (record { name = name.now; value = value.now }) }
@@ -52,7 +52,7 @@ fn write_front(space: &mut [u8], name: &Oid, value: &Value) -> Option<usize>
         (len ≡ length octets) × (len ≤ length space.old) × (take len space.new ≡ octets)) }
 {
     let mut out = Out::new(space);
-    if put_instance(&mut out, name, value).is_err() {
+    if put_binding(&mut out, name, value).is_err() {
         return None;
     }
     let len = out.len();
@@ -73,8 +73,9 @@ impl EncodedBindings {
     }
 
     /// Adds the binding of a name and a value at the end, where all bindings then have at most `most`
-    /// octets, and says whether it did. `most` is at most `MAX_REPLY`. Takes no memory. The caller
-    /// ensures that a name can be encoded.
+    /// octets, and says whether it did. `most` is at most `MAX_REPLY`, and the bindings have at most so many
+    /// octets already. Takes no memory. The caller ensures that the name, and an OBJECT IDENTIFIER value,
+    /// begin as X.690, 8.19.4 asks.
     pub fn push(&mut self, name: &Oid, value: &Value, most: usize) -> bool
         requires encodable { IsEncodableBinding (record { name = name.now; value = value.now }) }
         requires most { most ≤ MAX_REPLY }
@@ -96,7 +97,14 @@ impl EncodedBindings {
         }
     }
 
-    /// The octets of the bindings.
+    /// Hands on that each binding has an encoding. It does nothing.
+    pub fn known(&self)
+        ensures { AreEncodable self.now }
+    {
+        let _len = self.len;
+    }
+
+    /// The shortest encodings of the bindings, one behind the other: at most `MAX_REPLY` octets.
     pub fn octets(&self) -> &[u8]
         ensures octets { result.now ≡ canon_bindings self.now }
         ensures most { length result.now ≤ MAX_REPLY }

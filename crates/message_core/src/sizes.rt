@@ -1,4 +1,4 @@
-//! How many octets a reply has beside its bindings.
+//! How many octets a reply leaves its bindings.
 ghost use Rattle.std.specs.Prelude.{◌≡◌, ◌≤◌, ◌+◌, ◌↔◌, length, List, pos};
 ghost use Rattle.ber_core.specs.Encoding.{canon_tlv};
 ghost use Rattle.message_core.specs.Tags as tags;

@@ -86,7 +86,7 @@ pub fn put_value(out: &mut Out<'_>, value: &Value) -> Result<(), BerFault>
 ///
 /// `NoRoom` where it does not fit. The caller ensures that a name can be encoded.
 #[tactic(auto, unfolding(ber_core::specs::Encoding::canon_tlv, crate::specs::Canon::canon_binding))]
-pub fn put_instance(out: &mut Out<'_>, name: &Oid, value: &Value) -> Result<(), BerFault>
+pub fn put_binding(out: &mut Out<'_>, name: &Oid, value: &Value) -> Result<(), BerFault>
     requires { IsEncodableBinding (record { name = name.now; value = value.now }) }
     ensures same_reference { out.new.space.ghost_name ≡ out.old.space.ghost_name }
     ensures puts { Prepends out.old out.new result
@@ -107,7 +107,7 @@ fn put_bindings(out: &mut Out<'_>, bindings: &[Binding]) -> Result<(), BerFault>
     let mut i = bindings.len();
     while i > 0 {
         i -= 1;
-        put_instance(out, &bindings[i].name, &bindings[i].value)?;
+        put_binding(out, &bindings[i].name, &bindings[i].value)?;
     }
     Ok(())
 }
@@ -286,14 +286,16 @@ pub fn encode_answer(
     encode(&message, &mut [0; MAX_REPLY], buffer)
 }
 
-/// Writes the shortest encoding of the reply to a request that has no error, and these bindings, as
-/// `encode_answer` does.
+/// Writes the shortest encoding of the reply to a request with noError, index 0 and these bindings (RFC
+/// 3416, 4.2) to the front of the buffer, and answers how long it is, at most `MAX_REPLY` octets.
+///
+/// What stands behind it stays. `TooBig` exactly where it is longer than `MAX_REPLY`, 1,472, octets; the
+/// buffer is then as before. Takes no memory.
 pub fn encode_no_error(
     request: &Request,
     bindings: &EncodedBindings,
     buffer: &mut [u8; MAX_REPLY],
 ) -> Result<usize, TooBig>
-    requires { AreEncodable bindings.now }
     ensures ok { IfOk result (λ n.
         buffer.new ≡ canon_reply (answer_to request.now ErrorStatus.NoError (pos 0) bindings.now)
         ++ drop n buffer.old) }
@@ -304,6 +306,7 @@ pub fn encode_no_error(
         (canon_reply (answer_to request.now ErrorStatus.NoError (pos 0) bindings.now))) }
     ensures unchanged { OnErr result (buffer.new ≡ buffer.old) }
 {
+    bindings.known();
     let message = Message {
         tag: Tag(tag::RESPONSE),
         id: request.id,
