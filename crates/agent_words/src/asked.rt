@@ -3,7 +3,7 @@ ghost use Rattle.std.specs.Prelude.{◌≡◌};
 ghost use Rattle.agent_words.specs.Asking.{is_serving};
 
 /// What words ask for.
-#[derive(Drop)]
+#[derive(Debug, Drop)]
 pub enum Asked<'a> {
     /// The script by the built-in configuration.
     BuiltIn,
@@ -20,7 +20,7 @@ pub enum Asked<'a> {
 }
 
 /// A command of an operator for a served agent.
-#[derive(Clone, Copy, Drop)]
+#[derive(Clone, Copy, Debug, Drop)]
 pub enum Order<'a> {
     /// The counts of what was dropped.
     Counts,
@@ -31,7 +31,7 @@ pub enum Order<'a> {
 }
 
 /// A request of which the decision is asked for.
-#[derive(Drop)]
+#[derive(Debug, Drop)]
 pub struct Question<'a> {
     /// The community.
     pub community: &'a str,
@@ -42,7 +42,7 @@ pub struct Question<'a> {
 }
 
 /// What a request does with its variables (RFC 3416, section 4.2).
-#[derive(Clone, Copy, PartialEq, Eq, Drop)]
+#[derive(Clone, Copy, Debug, PartialEq, Eq, Drop)]
 pub enum Operation {
     /// A Get.
     Get,
@@ -53,7 +53,7 @@ pub enum Operation {
 }
 
 /// For how long an agent is served.
-#[derive(Clone, Copy, Drop)]
+#[derive(Clone, Copy, Debug, Drop)]
 pub enum Lasting<'a> {
     /// Until each of its lines has made its rounds.
     Rounds,

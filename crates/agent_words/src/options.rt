@@ -102,19 +102,7 @@ fn added<'a>(
     ensures { IfOk result (λ r. IsOkAnd agent.entry (λ a.
         IsOkAnd subcommand.entry (λ s. AddsSubcommand a s r))) }
 {
-    match agent {
-        Ok(agent) => match subcommand {
-            Ok(subcommand) => agent.subcommand(subcommand),
-            Err(error) => {
-                drop(agent);
-                Err(error)
-            }
-        },
-        Err(error) => {
-            drop(subcommand);
-            Err(error)
-        }
-    }
+    agent?.subcommand(subcommand?)
 }
 
 // A command with an argument more, where the command is made.
@@ -124,13 +112,7 @@ fn with_argument<'a>(
 ) -> Result<Command<'a>, AllocError>
     ensures { IfOk result (λ r. IsOkAnd command.entry (λ c. AddsArg c argument.entry r)) }
 {
-    match command {
-        Ok(command) => command.arg(argument),
-        Err(error) => {
-            drop(argument);
-            Err(error)
-        }
-    }
+    command?.arg(argument)
 }
 
 // What stands in front of a subcommand.
@@ -184,7 +166,8 @@ fn serve_command<'a>(alloc: Global) -> Result<Command<'a>, AllocError>
         "audit",
         "Write the audit of each request to standard output; wants --forever",
     );
-    with_argument(with_argument(serve, audit), control_option(alloc))
+    let serve = with_argument(serve, audit);
+    with_argument(serve, control_option(alloc))
 }
 
 // `explain`: what the policy of a file decides on a request.
@@ -208,10 +191,9 @@ fn explain_command<'a>(alloc: Global) -> Result<Command<'a>, AllocError>
         "NAME",
         "An object identifier with dots, as 1.3.6.1.2.1.17.1.2.0",
     );
-    with_argument(
-        with_argument(with_argument(explain, community), request),
-        names,
-    )
+    let explain = with_argument(explain, community);
+    let explain = with_argument(explain, request);
+    with_argument(explain, names)
 }
 
 // `tell`: a command for a served agent.

@@ -55,14 +55,12 @@ fn asked_by<'a>(alloc: Global, words: &'a [String]) -> Result<Asked<'a>, Error>
     ensures asked { IfOk result (IsAsked (map string_bytes words.now)) }
     ensures refused { IfErr result (IsRefusal (map string_bytes words.now)) }
 {
-    match agent_command(alloc) {
-        Ok(mut agent) => asked_of(alloc, &mut agent, words),
-        Err(error) => Err(Error::from(error)),
-    }
+    let mut agent = agent_command(alloc)?;
+    asked_with(alloc, &mut agent, words)
 }
 
 // What the words ask of this command, or the error of them.
-fn asked_of<'a>(
+fn asked_with<'a>(
     alloc: Global,
     agent: &mut Command<'a>,
     words: &'a [String],

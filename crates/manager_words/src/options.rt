@@ -35,19 +35,7 @@ fn added<'a>(
     ensures { IfOk result (λ r. IsOkAnd manager.entry (λ m.
         IsOkAnd request.entry (λ s. AddsSubcommand m s r))) }
 {
-    match manager {
-        Ok(manager) => match request {
-            Ok(request) => manager.subcommand(request),
-            Err(error) => {
-                drop(manager);
-                Err(error)
-            }
-        },
-        Err(error) => {
-            drop(request);
-            Err(error)
-        }
-    }
+    manager?.subcommand(request?)
 }
 
 // A command with an argument more, where the command is made.
@@ -57,13 +45,7 @@ fn with_argument<'a>(
 ) -> Result<Command<'a>, AllocError>
     ensures { IfOk result (λ r. IsOkAnd command.entry (λ c. AddsArg c argument.entry r)) }
 {
-    match command {
-        Ok(command) => command.arg(argument),
-        Err(error) => {
-            drop(argument);
-            Err(error)
-        }
-    }
+    command?.arg(argument)
 }
 
 // What stands in front of a request.
@@ -105,10 +87,9 @@ fn bulk_command<'a>(alloc: Global) -> Result<Command<'a>, AllocError>
         "M",
         "Max-repetitions: how often the other names are asked for, 0 to 2147483647",
     );
-    with_argument(
-        with_argument(with_argument(bulk, first), second),
-        names(alloc),
-    )
+    let bulk = with_argument(bulk, first);
+    let bulk = with_argument(bulk, second);
+    with_argument(bulk, names(alloc))
 }
 
 // `walk`: the root of a subtree.
@@ -157,7 +138,8 @@ fn request_command<'a>(
         "COMMUNITY",
         "The community, up to 255 octets; behind '--' if it begins with '-'",
     );
-    with_argument(with_argument(request, address), community)
+    let request = with_argument(request, address);
+    with_argument(request, community)
 }
 
 /// What help says of a name.

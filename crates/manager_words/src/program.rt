@@ -55,14 +55,12 @@ pub fn command_of(alloc: Global, words: &[String]) -> Result<Command, Error>
     ensures refused { IfErr result (IsRefusal (map string_bytes words.now)) }
     ensures askable { IfOk result (λ c. IsAskable c.errand) }
 {
-    match manager_command(alloc) {
-        Ok(mut manager) => command_by(alloc, &mut manager, words),
-        Err(error) => Err(Error::from(error)),
-    }
+    let mut manager = manager_command(alloc)?;
+    command_with(alloc, &mut manager, words)
 }
 
 // What the words ask of this command, or the error of them.
-fn command_by<'a>(
+fn command_with<'a>(
     alloc: Global,
     manager: &mut clap::Command<'a>,
     words: &'a [String],

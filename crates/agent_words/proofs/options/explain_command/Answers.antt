@@ -11,6 +11,6 @@ returns c =
     let request = one_word (codes "REQUEST") in
     let one = with_rule none community in
     let two = with_rule one request in
-    let h1 = taking none community c.file_command-explain.result c.one_word-community.result c.with_argument.result c.file_command-explain.ensures c.one_word-community.ensures c.with_argument.ensures in
-    let h2 = taking one request c.with_argument.result c.one_word-request.result c.with_argument-2.result h1 c.one_word-request.ensures c.with_argument-2.ensures in
-    taking two (some_words (codes "NAME")) c.with_argument-2.result c.some_words-names.result c.with_argument-3.result h2 c.some_words-names.ensures c.with_argument-3.ensures
+    let h1 = taking none community c.file_command-explain.result c.one_word-community.result c.with_argument-explain.result c.file_command-explain.ensures c.one_word-community.ensures c.with_argument-explain.ensures in
+    let h2 = taking one request c.with_argument-explain.result c.one_word-request.result c.with_argument-explain-2.result h1 c.one_word-request.ensures c.with_argument-explain-2.ensures in
+    taking two (some_words (codes "NAME")) c.with_argument-explain-2.result c.some_words-names.result c.with_argument.result h2 c.some_words-names.ensures c.with_argument.ensures

@@ -10,5 +10,5 @@ returns c =
     let one = with_rule none forever_flag in
     let two = with_rule one audit_flag in
     let h1 = taking none forever_flag c.file_command-serve.result c.flag.result c.with_argument-serve.result c.file_command-serve.ensures c.flag.ensures c.with_argument-serve.ensures in
-    let h2 = taking one audit_flag c.with_argument-serve.result c.flag-audit.result c.with_argument.result h1 c.flag-audit.ensures c.with_argument.ensures in
-    taking two control_option c.with_argument.result c.control_option.result c.with_argument-2.result h2 c.control_option.ensures c.with_argument-2.ensures
+    let h2 = taking one audit_flag c.with_argument-serve.result c.flag-audit.result c.with_argument-serve-2.result h1 c.flag-audit.ensures c.with_argument-serve-2.ensures in
+    taking two control_option c.with_argument-serve-2.result c.control_option.result c.with_argument.result h2 c.control_option.ensures c.with_argument.ensures

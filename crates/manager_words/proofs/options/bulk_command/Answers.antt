@@ -11,6 +11,6 @@ returns c =
     let second = bulk_number (codes "M") in
     let one = with_rule none first in
     let two = with_rule one second in
-    let h1 = taking none first c.request_command-bulk.result c.bulk_number-first.result c.with_argument.result c.request_command-bulk.ensures c.bulk_number-first.ensures c.with_argument.ensures in
-    let h2 = taking one second c.with_argument.result c.bulk_number-second.result c.with_argument-2.result h1 c.bulk_number-second.ensures c.with_argument-2.ensures in
-    taking two (some_words (codes "NAME")) c.with_argument-2.result c.names.result c.with_argument-3.result h2 c.names.ensures c.with_argument-3.ensures
+    let h1 = taking none first c.request_command-bulk.result c.bulk_number-first.result c.with_argument-bulk.result c.request_command-bulk.ensures c.bulk_number-first.ensures c.with_argument-bulk.ensures in
+    let h2 = taking one second c.with_argument-bulk.result c.bulk_number-second.result c.with_argument-bulk-2.result h1 c.bulk_number-second.ensures c.with_argument-bulk-2.ensures in
+    taking two (some_words (codes "NAME")) c.with_argument-bulk-2.result c.names.result c.with_argument.result h2 c.names.ensures c.with_argument.ensures

@@ -16,5 +16,5 @@ returns c =
     let h : HasWords none c.new.result = record { words = c.new.ensures.app; local = c.new.ensures.local } in
     let h1 = described none c.new.result c.about.result _ c.about.ensures h in
     let h2 = IfOk-weaker c.arg-request.result _ (HasWords one) (λ n adds. ruled none tries_option c.about.result c.tries_option.result n h1 c.tries_option.ensures adds) c.arg-request.ensures in
-    let h3 = taking one address c.arg-request.result c.one_word-address.result c.with_argument.result h2 c.one_word-address.ensures c.with_argument.ensures in
-    taking two (one_word (codes "COMMUNITY")) c.with_argument.result c.one_word-community.result c.with_argument-2.result h3 c.one_word-community.ensures c.with_argument-2.ensures
+    let h3 = taking one address c.arg-request.result c.one_word-address.result c.with_argument-request.result h2 c.one_word-address.ensures c.with_argument-request.ensures in
+    taking two (one_word (codes "COMMUNITY")) c.with_argument-request.result c.one_word-community.result c.with_argument.result h3 c.one_word-community.ensures c.with_argument.ensures

@@ -2,7 +2,7 @@ use Rattle.std.proofs.Common.{Global, map, string_bytes}
 use Rattle.std.proofs.lemmas.Result.{MatchResult-weaker}
 use Rattle.clap.specs.Words.{app_of}
 use Rattle.agent_words.proofs.Refused.{command_stated, none_stated, parse_failed}
-use Rattle.agent_words.proofs.program.asked_of.Goals as goal
+use Rattle.agent_words.proofs.program.asked_with.Goals as goal
 
 pub returns-in-Err-clause-refused : goal.returns-in-Err-clause-refused
 returns-in-Err-clause-refused c =
