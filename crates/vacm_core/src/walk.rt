@@ -6,7 +6,7 @@ ghost use Rattle.vacm_core.specs.Trees.{reaches, fits, IsFit, Covers, IsLater};
 ghost use Rattle.vacm_core.specs.declared.tree.Step.{Step};
 
 use crate::contest::{Contest, takes_over};
-use crate::radix::{Branch, Radix, Segment};
+use crate::radix::{Branch, Radix};
 
 /// How many steps a fork takes from which a name may go on in several ways.
 const LOOSE_STEPS: usize = 16;
@@ -91,7 +91,6 @@ pub fn best_below<C: Contest>(
     let node: &Branch = match tree {
         Radix::Empty => return best,
         Radix::Segment(run) => {
-            let run: &Segment = run;
             return match run.after(name) {
                 Some(after) => best_below(&run.below, contest, rows, after, best, left),
                 None => best,

@@ -39,16 +39,16 @@ returns-in-Some-clause-found g t c still way n e f =
     let run = c.in-Segment.run' in
     let name = c.args.name.now in
     let found : Some c.in-Some.after.now ≡ after_run run.value.loose run.value.parts.items name =
-    ap (option_map (λ rest. rest.now)) (sym c.in-Some.is) ∙ c.after.ensures ∙ ap (λ (r : Segment). after_run r.loose r.parts.items name) c.deref-run.ensures in
+    ap (option_map (λ rest. rest.now)) (sym c.in-Some.is) ∙ c.after.ensures ∙ ap (λ (r : Segment). after_run r.loose r.parts.items name) c.deref.ensures in
     let on = leads_behind run.value.loose run.value.parts.items run.value.below name c.in-Some.after.now n (along_run c.args.tree.now run c.in-Segment.is way name n e f) found in
-    c.best_below.ensures.found still on.rest n (subst (λ (r : Segment). reaches r.below on.rest n ≡ true) (sym c.deref-run.ensures) on.leads) on.fits
+    c.best_below.ensures.found still on.rest n (subst (λ (r : Segment). reaches r.below on.rest n ≡ true) (sym c.deref-in-Some.ensures) on.leads) on.fits
 
 pub returns-in-None-clause-found : goal.returns-in-None-clause-found
 returns-in-None-clause-found g t c still way n e f =
     let run = c.in-Segment.run' in
     let name = c.args.name.now in
     let found : None ≡ after_run run.value.loose run.value.parts.items name =
-    ap (option_map (λ rest. rest.now)) (sym c.in-None.is) ∙ c.after.ensures ∙ ap (λ (r : Segment). after_run r.loose r.parts.items name) c.deref-run.ensures in
+    ap (option_map (λ rest. rest.now)) (sym c.in-None.is) ∙ c.after.ensures ∙ ap (λ (r : Segment). after_run r.loose r.parts.items name) c.deref.ensures in
     leads_nowhere run.value.loose run.value.parts.items run.value.below name n (along_run c.args.tree.now run c.in-Segment.is way name n e f) found
 
 -- a row that is none is not of a number
