@@ -122,7 +122,7 @@ goes_above t b is (s ∷ rest) (x ∷ name) n e f some tight high =
     let above : ltb node.part s.part ≡ true = lt-ltb node.part s.part (omega arith) in
     rw (low, above) at parts.1
 
--- a way that does not turn to either side ends with the fork's number or goes on after it
+-- a way whose number is not the fork's turns to one side
 aside : (node : Branch) (s : Step) (rest : List Step) (x : ℕ) (name : List ℕ) (n : ℕ)
     → ((node.loose || s.counts) && (cond (ltb s.part node.part) (reaches node.less (s ∷ rest) n) (cond (ltb node.part s.part) (reaches node.greater (s ∷ rest) n) ((node.loose_equal || s.counts) && ends_or node.row (reaches node.equal rest n) rest n)))) ≡ true
     → ((not s.counts || s.part == x) && fits rest name) ≡ true → node.loose_equal ≡ false → x ≢ node.part
