@@ -1,5 +1,5 @@
 -- A list of which a next member needs a long name, from one repetition to the whole list.
-use Rattle.std.proofs.Common.{◌≡◌, ℕ, zero, suc, ◌+◌, ◌-◌, ◌<◌, ◌≤◌, ◌∙◌, sym, ap, subst, refl, Bool, true, false, List, [], ◌∷◌, ◌++◌, length, take, drop, get_or, arith, Some, drop-cons, append_assoc, append-nil, length-append, length-drop}
+use Rattle.std.proofs.Common.{◌≡◌, ℕ, zero, suc, ◌+◌, ◌-◌, ◌<◌, ◌≤◌, ◌∙◌, sym, ap, subst, refl, Bool, true, List, [], ◌∷◌, ◌++◌, length, take, drop, get_or, arith, Some, drop-cons, append_assoc, length-append}
 use Rattle.std.specs.List.{slice_get}
 use Rattle.std.specs.Prelude.{Result, Ok, Err, OnErr, is_err}
 use Rattle.std.specs.declared.alloc.AllocError.{AllocError}
@@ -14,7 +14,7 @@ use Rattle.message_core.specs.declared.request.Request.{Request}
 use Rattle.agent_core.specs.Fitting.{reply_size}
 use Rattle.agent_core.specs.Lacking.{IsLacking, LacksBulkName, bulk_names, binding_number, non_repeaters}
 use Rattle.agent_core.specs.Bulk.{repetitions, further, bulk_list, count_of}
-use Rattle.agent_core.proofs.Fits.{repeats, last_is, names-length, names-take, names-drop, list_parts}
+use Rattle.agent_core.proofs.Fits.{repeats, last_is, names-length, names-drop, list_parts}
 
 abbrev Name : Type 0
 Name = List ℕ

@@ -1,9 +1,8 @@
 -- For which names a walk takes memory.
-use Rattle.std.proofs.Common.{◌≡◌, ℕ, suc, ◌<◌, ◌≤◌, ◌∙◌, sym, ap, subst, refl, Bool, true, false, cond, List, [], ◌∷◌, ◌++◌, length, drop, filter, arith, All, Contains, Option, Some, None, IsTrue, append_assoc, inl, inr}
-use Rattle.std.specs.Prelude.{if◌then◌else◌, MatchOption, get_or}
-use Rattle.std.specs.List.{slice_get}
+use Rattle.std.proofs.Common.{◌≡◌, ℕ, ◌<◌, ◌∙◌, sym, ap, subst, refl, Bool, true, false, cond, List, [], ◌∷◌, length, arith, Contains, Option, Some, None, IsTrue, inl, inr}
+use Rattle.std.specs.Prelude.{MatchOption}
 use Rattle.std.proofs.lemmas.Bool.{false≢true}
-use Rattle.std.proofs.lemmas.List.Elements.{All-contains, Contains-get_or, Contains-append_left, Contains-append_right, Contains-append_cases}
+use Rattle.std.proofs.lemmas.List.Elements.{All-contains, Contains-append_right}
 use Rattle.oid_core.specs.Order.{name_lt}
 use Rattle.oid_core.specs.declared.limits.TheConstants.{INLINE_NUMBERS}
 use Rattle.oid_core.proofs.OrderLaws.{name_lt-irrefl, name_lt-trans, any_two, before_lt}

@@ -26,7 +26,7 @@ use Rattle.setphase_core.specs.Together.{assign, assignments, refusal_of}
 use Rattle.setphase_core.specs.Variables.{NamedAssignment, writings}
 use Rattle.setphase_core.proofs.FamilyPuts.{marks_itself, mask_elsewhere, mask_kept, type_elsewhere, type_kept}
 use Rattle.setphase_core.proofs.Kept.{set_keeps, stuck_keeps_policy}
-use Rattle.agent_core.specs.Answers.{RequestNotes, world_by, world_after, with_count_of, step_of, step_by, allowed_step}
+use Rattle.agent_core.specs.Answers.{RequestNotes, world_by, world_after, step_of, step_by, allowed_step}
 use Rattle.agent_core.specs.Sets.{is_too_long, settled, settled_world, set_step}
 
 -- ---- each family keeps its view and its subtree

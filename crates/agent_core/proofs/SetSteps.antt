@@ -36,7 +36,7 @@ use Rattle.agent_core.specs.Lacking.{LacksNameOf}
 use Rattle.agent_core.specs.Denying.{denied_in}
 use Rattle.agent_core.specs.Replies.{reply_within_limit, refusal_reply, kind_reply}
 use Rattle.agent_core.specs.Sets.{SetStep, SetAnswer, is_too_long, too_long_reply, no_notes, set_answer, set_reply, set_step, settled_world, settling_bpdus, untested_step, tested_step, tested_step_by, IsReportedOf, IsDenied, TakesPlaces, TakesInSet, TakesInSetBy, MayFailInSet, set_calls}
-use Rattle.agent_core.specs.Answers.{calls_by, calls_in_view, request_calls, replied, Step, shown_of, outcome_by, outcome_of, unnamed_outcome, unnamed_outcome_by, RequestNotes, met_by, unnamed_reported, MayLackName, IsRead, world_by, world_after, with_count_of, drop_audit, reply_audit, step_of, step_by, reading_step, allowed_step, writing_step, IsSent, IsAnswered, IsReply, IsDone, IsReported, IsShort, IsStep, MayHave, MayFailBy, MayFailInView, TakesInView, notes_reported, without_answer}
+use Rattle.agent_core.specs.Answers.{calls_by, calls_in_view, request_calls, replied, Step, shown_of, outcome_by, outcome_of, unnamed_outcome, unnamed_outcome_by, RequestNotes, met_by, unnamed_reported, MayLackName, IsRead, world_by, world_after, with_count_of, drop_audit, reply_audit, step_of, step_by, reading_step, allowed_step, writing_step, IsSent, IsAnswered, IsDone, IsReported, IsShort, IsStep, MayHave, MayFailBy, MayFailInView, TakesInView, notes_reported, without_answer}
 use Rattle.agent_core.specs.declared.answered.Answered.{Answered}
 use Rattle.agent_core.specs.declared.answered.Answered.TheVariants as answered
 use Rattle.agent_core.specs.declared.sent_reply.SentReply.{SentReply}

@@ -1,18 +1,15 @@
-use Rattle.std.proofs.Common.{◌≡◌, ◌∙◌, ap, pos, List, sym, subst, ℕ}
+use Rattle.std.proofs.Common.{◌≡◌, ◌∙◌, ap, pos, List, sym, subst}
 use Rattle.message_core.specs.Canon.{answer_to}
-use Rattle.message_core.specs.Encodable.{AreEncodable}
-use Rattle.message_core.specs.Instances.{names_of}
 use Rattle.message_core.specs.declared.binding.Binding.{Binding}
 use Rattle.message_core.specs.declared.reply.Reply.{Reply}
 use Rattle.message_core.specs.declared.request.Kind.{Kind}
 use Rattle.message_core.specs.declared.status.ErrorStatus.TheVariants.{NoError}
-use Rattle.agent_core.specs.Reading.{visible, get_answers, next_answers}
+use Rattle.agent_core.specs.Reading.{visible}
 use Rattle.agent_core.specs.Bulk.{asked_list}
 use Rattle.agent_core.specs.Fitting.{fitting_front}
 use Rattle.agent_core.specs.Replies.{kind_reply, reply_within_limit}
 use Rattle.agent_core.specs.Answers.{IsSent}
 use Rattle.agent_core.proofs.Encodings.{answers_encodable, nexts_encodable}
-use Rattle.agent_core.proofs.ReadReplies.{ok_more}
 use Rattle.agent_core.proofs.Sizes.{sized-fits}
 use Rattle.agent_core.proofs.Longest.{longest_law}
 use Rattle.agent_core.proofs.answering.put_read.Goals as goal

@@ -1,7 +1,6 @@
-use Rattle.std.proofs.Common.{◌≡◌, ◌∙◌, ◌++◌, ◌-◌, ◌+◌, ap, sym, refl, rules, true, false, length, drop, arith}
+use Rattle.std.proofs.Common.{◌≡◌, ◌∙◌, ◌++◌, ◌-◌, ◌+◌, sym, refl, rules, true, false, length, drop, arith}
 use Rattle.message_core.specs.Instances.{names_of}
 use Rattle.agent_core.specs.Reading.{visible, next_answers}
-use Rattle.agent_core.specs.Bulk.{all_end}
 use Rattle.agent_core.proofs.Fits.{repeat_cut, repeat_more, further_ended, further_going, further_done, last_count, last_names}
 use Rattle.agent_core.specs.Lookups.{most_lookups}
 use Rattle.agent_core.proofs.LookupLemmas.{beside_within}

@@ -6,7 +6,6 @@ use Rattle.agent_core.proofs.Stands.{offered}
 use Rattle.std.specs.Prelude.{Result, Ok}
 use Rattle.std.specs.declared.alloc.AllocError.{AllocError}
 use Rattle.setphase_core.proofs.States.{on_err_always}
-use Rattle.agent_core.specs.Lookups.{LacksName}
 use Rattle.agent_core.proofs.Lacks.{lacks_answer, lacks_made}
 use Rattle.agent_core.proofs.bulk.send_next.Goals as goal
 

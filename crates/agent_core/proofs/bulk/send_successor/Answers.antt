@@ -3,7 +3,6 @@ use Rattle.message_core.specs.declared.binding.Binding.{Binding}
 use Rattle.message_core.specs.Instances.{names_of}
 use Rattle.agent_core.specs.Reading.{visible, end_under, next_answer}
 use Rattle.agent_core.specs.Fitting.{fit_into}
-use Rattle.agent_core.proofs.Fits.{first_name}
 use Rattle.agent_core.proofs.Stands.{offered}
 use Rattle.std.specs.Prelude.{Result, Ok}
 use Rattle.std.specs.declared.alloc.AllocError.{AllocError}

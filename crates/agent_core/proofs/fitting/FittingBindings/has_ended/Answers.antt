@@ -1,6 +1,5 @@
 use Rattle.std.proofs.Common.{◌-◌, ◌∙◌, ap, sym, drop, length}
 use Rattle.agent_core.specs.Bulk.{all_end}
-use Rattle.agent_core.specs.declared.sent_name.SentName.{SentName}
 use Rattle.agent_core.proofs.SentNames.{last_end}
 use Rattle.agent_core.proofs.fitting.FittingBindings.has_ended.Goals as goal
 

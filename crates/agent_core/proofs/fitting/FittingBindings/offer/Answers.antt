@@ -1,4 +1,4 @@
-use Rattle.std.proofs.Common.{◌≡◌, ◌<◌, length, map, vec_capacity, ◌∙◌, ap, refl, arith}
+use Rattle.std.proofs.Common.{◌≡◌, ◌<◌, length, vec_capacity, ◌∙◌, ap, refl, arith}
 use Rattle.std.proofs.lemmas.List.{length-map}
 use Rattle.agent_core.specs.Fitting.{total}
 use Rattle.agent_core.specs.Sending.{sent_name}
