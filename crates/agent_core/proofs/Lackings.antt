@@ -1,9 +1,11 @@
 -- A list of which a next member needs a long name, from one repetition to the whole list.
-use Rattle.std.proofs.Common.{◌≡◌, ℕ, zero, suc, ◌+◌, ◌-◌, ◌<◌, ◌≤◌, ◌∙◌, sym, ap, subst, refl, Bool, true, List, [], ◌∷◌, ◌++◌, length, take, drop, get_or, arith, Some, drop-cons, append_assoc, length-append}
+use Rattle.std.proofs.Common.{◌≡◌, ◌⊎◌, ℕ, zero, suc, ◌+◌, ◌-◌, ◌<◌, ◌≤◌, ◌∙◌, sym, ap, subst, refl, Bool, true, List, [], ◌∷◌, ◌++◌, length, take, drop, get_or, arith, inl, inr, Some, drop-cons, append_assoc, length-append}
 use Rattle.std.specs.List.{slice_get}
 use Rattle.std.specs.Prelude.{Result, Ok, Err, OnErr, is_err}
 use Rattle.std.specs.declared.alloc.AllocError.{AllocError}
-use Rattle.std.proofs.lemmas.List.{map-append, length-map, length-take, take-append-drop}
+use Rattle.std.proofs.lemmas.Bool.{cases_lt}
+use Rattle.std.proofs.lemmas.Option.{slice_get_within}
+use Rattle.std.proofs.lemmas.List.{length-drop, map-append, length-map, length-take, take-append-drop}
 use Rattle.std.proofs.Math.Seq.{drop-append_seam}
 use Rattle.message_core.specs.declared.binding.Binding.{Binding}
 use Rattle.message_core.specs.Instances.{names_of}
@@ -289,3 +291,16 @@ module _ (shows : Name → Bool) (all_rows : List Binding) where
   bulk_lacks (Ok x) request asked old sent once most i before none asked_is once_is most_is failed h fits before_is number = absurd (cc failed)
   bulk_lacks (Err e) request asked old sent once most i before none asked_is once_is most_is failed h fits before_is number =
       bulk_lacking request asked old sent once most i before none asked_is once_is most_is h fits before_is number
+
+  -- a member that is not one of those that are asked once is asked of a column
+  pub some_asked : {A : Type 0} (result : Result A AllocError) (asked old sent all : List Binding) (once before : ℕ) → old ≡ [] →
+      is_err result ≡ true → OnErr result (IsLacking shows all_rows (bulk_names (names_of asked) once) old all sent) → before ≡ length sent → (1 ≤ length asked - once) ⊎ (before < once)
+  some_asked (Ok x) asked old sent all once before none failed h before_is = absurd (cc failed)
+  some_asked (Err e) asked old sent all once before none failed h before_is =
+      let whole : sent ≡ h.found = h.sent_is ∙ ap (λ (o : List Binding). o ++ h.found) none in
+      let there : length h.found < length (names_of asked ++ drop once (names_of h.found)) = slice_get_within (names_of asked ++ drop once (names_of h.found)) (length h.found) h.name h.asked in
+      let count : before ≡ length h.found = before_is ∙ ap length whole in
+      elim (cases_lt before once) [
+        | inl few ↦ inr few
+        | inr many ↦ inl (omega (arith, many, count, there, length-append (names_of asked) (drop once (names_of h.found)), length-drop once (names_of h.found), names-length asked, names-length h.found))
+      ]

@@ -1,5 +1,8 @@
 -- Bindings that are to be sent, and the octets that there is space for.
-use Rattle.std.specs.Prelude.{◌≡◌, ℕ, suc, min, max, ◌+◌, ◌-◌, ◌<◌, ◌≤◌, List, [], ◌∷◌, ◌++◌, length, map, drop, get_or}
+use Rattle.std.specs.Prelude.{◌≡◌, ℕ, suc, min, max, ◌+◌, ◌-◌, ◌<◌, ◌≤◌, List, [], ◌∷◌, ◌++◌, length, map, take, drop, get_or}
+use Rattle.std.specs.List.{AllByRecursion}
+use Rattle.oid_core.specs.declared.limits.TheConstants.{MAX_NUMBERS}
+use Rattle.message_core.specs.Instances.{names_of}
 use Rattle.message_core.specs.Encodable.{AreEncodable}
 use Rattle.message_core.specs.declared.binding.Binding.{Binding}
 use Rattle.message_core.specs.declared.limits.TheConstants.{MAX_REPLY}
@@ -17,16 +20,24 @@ pub record Sending : Type 0 where
   pub stands : List Stand
   pub most_stands : ℕ
 
--- what is kept of a binding beside its octets
-abbrev pub sent_name : Binding → SentName
-sent_name binding = record { name = binding.name; is_end = is_end binding.value }
+-- the name that stands there among the numbers of all names
+abbrev pub name_there : List ℕ → SentName → List ℕ
+name_there numbers sent = take (sent.end - sent.start) (drop sent.start numbers)
 
--- bindings that fit into the space, and what is kept of each
-pub record IsSending (sending : Sending) (names : List SentName) : Type 0 where
-  pub names_are : names ≡ map sent_name sending.bindings
+-- a name stands among so many numbers
+abbrev pub StandsWithin : ℕ → SentName → Type 0
+StandsWithin count sent = (sent.start ≤ sent.end) × (sent.end ≤ count)
+
+-- bindings that fit into the space, the numbers of their names, and where each name stands among these
+pub record IsSending (sending : Sending) (numbers : List ℕ) (names : List SentName) : Type 0 where
+  pub names_are : map (name_there numbers) names ≡ names_of sending.bindings
+  pub ends_are : map (λ sent. sent.is_end) names ≡ map (λ b. is_end b.value) sending.bindings
+  pub each : AllByRecursion (StandsWithin (length numbers)) names
+  pub few : length numbers ≤ total sending.bindings
   pub within : total sending.bindings ≤ sending.space
   pub most : sending.space ≤ MAX_REPLY
   pub encodable : AreEncodable sending.bindings
+  pub short : AllByRecursion (λ b. length b.name ≤ MAX_NUMBERS) sending.bindings
   pub kept_some : 1 ≤ sending.most_stands
   pub kept_most : sending.most_stands ≤ MAX_STANDS
   pub kept_within : length sending.stands ≤ sending.most_stands

@@ -1,7 +1,7 @@
 //! GetBulk: non-repeaters, repetitions, and where they stop (RFC 3416, 4.2.3).
 ghost use Rattle.std.specs.Prelude.{◌≡◌, ◌≤◌, ◌<◌, ◌⊎◌, ◌^◌, ◌+◌, ◌-◌, ◌*◌, ◌++◌, [], ◌∷◌, List, false, length, min, get_or, Err, IfOk, IfErr, OnOk, OnErr, IsTrue, drop};
 ghost use Rattle.oid_core.specs.Name.{HasRoot};
-ghost use Rattle.oid_core.specs.declared.limits.TheConstants.{INLINE_NUMBERS};
+ghost use Rattle.oid_core.specs.declared.limits.TheConstants.{MAX_NUMBERS};
 ghost use Rattle.message_core.specs.Encodable.{AreEncodable, IsEncodableBinding};
 ghost use Rattle.message_core.specs.declared.limits.TheConstants.{MAX_COMMUNITY};
 ghost use Rattle.message_core.specs.Instances.{names_of};
@@ -14,11 +14,10 @@ ghost use Rattle.agent_core.specs.Fitting.{fitting_front, fit_into, most_success
 ghost use Rattle.message_core.specs.declared.binding.Binding.{Binding};
 
 use crate::fitting::FittingBindings;
-use crate::nexts::{copy_of, find_next};
+use crate::nexts::find_next;
 use crate::shortage::Shortage;
 use crate::source::{Stand, Successors};
 use message_core::{Binding, EncodedBindings, Request, Value, bindings_space};
-use oid_core::Oid;
 use setphase_core::Spot;
 use std::alloc::{AllocError, Global};
 use std::sync::ledger::Ledger;
@@ -45,7 +44,11 @@ impl<S> Copy for Lookup<'_, S> {}
 
 // Where a walk stands at a name, found beside the stand of the last binding that was sent, if that is
 // kept.
-fn stand_at<S: Successors<L>, L: Ledger>(source: &S, fitting: &FittingBindings, name: &Oid) -> Stand
+fn stand_at<S: Successors<L>, L: Ledger>(
+    source: &S,
+    fitting: &FittingBindings,
+    name: &[u32],
+) -> Stand
     requires { AreStands (S.stands source.now) fitting.now.stands (names_of fitting.now.bindings) }
     ensures { S.stands source.now result name.now }
 {
@@ -60,7 +63,7 @@ fn stand_back<S: Successors<L>, L: Ledger>(
     source: &S,
     fitting: &FittingBindings,
     back: usize,
-    name: &Oid,
+    name: &[u32],
 ) -> Stand
     requires stands { AreStands (S.stands source.now) fitting.now.stands
         (names_of fitting.now.bindings) }
@@ -85,29 +88,28 @@ fn offer_instance<S: Successors<L>, L: Ledger>(
     spot: &Spot,
     stand: Stand,
     fitting: &mut FittingBindings,
-) -> Result<bool, AllocError>
+) -> bool
     requires there { S.is_there lookup.source.now spot.now }
     requires encodable { IsEncodableBinding (S.at lookup.source.now spot.now) }
-    ensures taken { IfOk result (λ taken. IsTrue taken →
-        fitting.new.bindings ≡ fitting.old.bindings ++ S.at lookup.entry.source.now spot.now ∷ []) }
-    ensures stand { IfOk result (λ taken. IsTrue taken →
-        fitting.new.stands ≡ kept fitting.old.most_stands fitting.old.stands stand) }
-    ensures full { IfOk result (λ taken. taken ≡ false → fitting.new ≡ fitting.old) }
-    ensures fits { IfOk result (λ taken. taken ≡ fit_into fitting.old.space
-        (fitting.old.bindings ++ S.at lookup.entry.source.now spot.now ∷ [])) }
+    ensures taken { IsTrue result →
+        fitting.new.bindings ≡ fitting.old.bindings ++ S.at lookup.entry.source.now spot.now ∷ [] }
+    ensures stand { IsTrue result →
+        fitting.new.stands ≡ kept fitting.old.most_stands fitting.old.stands stand }
+    ensures full { result ≡ false → fitting.new ≡ fitting.old }
+    ensures fits { result ≡ fit_into fitting.old.space
+        (fitting.old.bindings ++ S.at lookup.entry.source.now spot.now ∷ []) }
     ensures space { fitting.new.space ≡ fitting.old.space }
-    ensures err { OnErr result (fitting.new ≡ fitting.old) }
-    ensures long { OnErr result (INLINE_NUMBERS < length (S.at lookup.entry.source.now spot.now).name) }
 {
     let Lookup { alloc, source } = lookup;
-    let name = source.name(alloc, spot)?;
-    Ok(fitting.offer(name, &source.value(alloc, spot), stand))
+    let prefix = source.prefix(spot);
+    let value = source.value(alloc, spot);
+    fitting.offer(prefix, spot.index.as_slice(), &value, stand)
 }
 
 // Sends what GetNext answers under a name where it fits, and says whether it did.
 fn send_next<S: Successors<L>, L: Ledger>(
     lookup: Lookup<'_, S>,
-    name: &Oid,
+    name: &[u32],
     fitting: &mut FittingBindings,
     spot: &mut Spot,
     steps: &mut Steps<L>,
@@ -115,6 +117,7 @@ fn send_next<S: Successors<L>, L: Ledger>(
     requires stands { AreStands (S.stands lookup.source.now) fitting.old.stands
         (names_of fitting.old.bindings) }
     requires root { HasRoot name.now }
+    requires most { length name.now ≤ MAX_NUMBERS }
     ensures taken { IfOk result (λ taken. IsTrue taken →
         fitting.new.bindings ≡ fitting.old.bindings ++ next_answer (visible (S.shows lookup.entry.source.now)
         (S.instances lookup.entry.source.now)) name.now ∷ []) }
@@ -134,10 +137,9 @@ fn send_next<S: Successors<L>, L: Ledger>(
     let Lookup { alloc, source } = lookup;
     let mut stand = stand_at(source, fitting, name);
     if find_next(alloc, source, name, true, &mut stand, spot, steps)? {
-        return offer_instance(lookup, spot, stand, fitting);
+        return Ok(offer_instance(lookup, spot, stand, fitting));
     }
-    let name = copy_of(alloc, name)?;
-    Ok(fitting.offer(name, &Value::EndOfMibView, stand))
+    Ok(fitting.offer(name, &[], &Value::EndOfMibView, stand))
 }
 
 // Sends one repetition, GetNext of the name of each of these bindings, as far as it fits, and
@@ -178,7 +180,7 @@ fn repeat_once<S: Successors<L>, L: Ledger>(
         fitting.new.bindings) }
 {
     for binding in asked {
-        if !send_next(lookup, &binding.name, fitting, spot, steps)? {
+        if !send_next(lookup, binding.name.as_slice(), fitting, spot, steps)? {
             return Ok(false);
         }
     }
@@ -223,10 +225,9 @@ fn send_successor<S: Successors<L>, L: Ledger>(
     let before = fitting.name(back);
     let mut stand = stand_back(source, fitting, back, before);
     if find_next(alloc, source, before, true, &mut stand, spot, steps)? {
-        return offer_instance(lookup, spot, stand, fitting);
+        return Ok(offer_instance(lookup, spot, stand, fitting));
     }
-    let name = copy_of(alloc, before)?;
-    Ok(fitting.offer(name, &Value::EndOfMibView, stand))
+    Ok(fitting.offer_end(back, stand))
 }
 
 // Sends one repetition more, GetNext of the names of the one that was sent last, which has so many

@@ -1,12 +1,14 @@
 //! The bindings of a GetBulk that fit so far (RFC 3416, 4.2.3).
-ghost use Rattle.std.specs.Prelude.{◌≡◌, ◌≤◌, ◌-◌, ◌++◌, [], ◌∷◌, IfOk, IsTrue, false, length, drop, get_or, nat_le, slice_get, if◌then◌else◌, None};
+ghost use Rattle.std.specs.Prelude.{◌≡◌, ◌≤◌, ◌+◌, ◌-◌, ◌++◌, vec_capacity, [], ◌∷◌, IfOk, IsTrue, false, length, drop, get_or, nat_le, slice_get, if◌then◌else◌, None};
 ghost use Rattle.std.specs.List.{list_all};
 ghost use Rattle.std.specs.Option.{option_copied};
 ghost use Rattle.oid_core.specs.Name.{HasRoot};
+ghost use Rattle.oid_core.specs.declared.limits.TheConstants.{MAX_NUMBERS};
 ghost use Rattle.message_core.specs.Instances.{names_of};
 ghost use Rattle.message_core.specs.Encodable.{IsEncodableBinding, AreEncodable};
 ghost use Rattle.message_core.specs.declared.limits.TheConstants.{MAX_REPLY};
-ghost use Rattle.agent_core.specs.Bulk.{all_end};
+ghost use Rattle.agent_core.specs.Reading.{end_under};
+ghost use Rattle.agent_core.specs.Bulk.{all_end, is_end};
 ghost use Rattle.agent_core.specs.Fitting.{total, fit_into};
 ghost use Rattle.agent_core.specs.Sending.{kept, stands_of};
 
@@ -14,7 +16,7 @@ use crate::sent_name::SentName;
 use crate::source::Stand;
 use arrayvec::ArrayVec;
 use message_core::{EncodedBindings, Value};
-use oid_core::Oid;
+use oid_core::MAX_NUMBERS;
 use std::alloc::{AllocError, Global};
 use std::marker::Model;
 
@@ -30,6 +32,8 @@ const LEAST_BINDING: usize = 6;
 #[derive(Drop)]
 pub struct FittingBindings {
     bindings: EncodedBindings,
+    // The numbers of their names, one name behind the other, and where each name stands there.
+    numbers: Vec<u32>,
     names: Vec<SentName>,
     // Where walks stand at the names of the last of them, and for how many that is kept.
     stands: ArrayVec<Stand, MAX_STANDS>,
@@ -38,7 +42,8 @@ pub struct FittingBindings {
 }
 
 impl Model for FittingBindings {
-    ghost use Rattle.std.specs.Prelude.{◌<◌, ◌/◌, vec_capacity};
+    ghost use Rattle.std.specs.Prelude.{◌<◌, ◌≤◌, ◌+◌, ◌/◌, vec_capacity};
+    ghost use Rattle.oid_core.specs.declared.limits.TheConstants.{MAX_NUMBERS};
     ghost use Rattle.agent_core.specs.Fitting.{least_binding};
     ghost use Rattle.agent_core.specs.Sending.{Sending, IsSending};
 
@@ -57,13 +62,24 @@ impl Model for FittingBindings {
           bindings = s.bindings;
           stands = s.stands.items;
           most_stands = s.most_stands;
-        }) s.names.items × (s.space / least_binding < vec_capacity s.names) };
+        }) s.numbers.items s.names.items × (s.space / least_binding < vec_capacity s.names)
+        × (s.space + MAX_NUMBERS ≤ vec_capacity s.numbers) };
+}
+
+// Appends the numbers of a name, for which there is memory.
+fn push_name(numbers: &mut Vec<u32>, prefix: &[u32], index: &[u32])
+    requires { length numbers.old.items + length (prefix.now ++ index.now) ≤ vec_capacity numbers.old }
+    ensures items { numbers.new.items ≡ numbers.old.items ++ (prefix.now ++ index.now) }
+    ensures capacity { vec_capacity numbers.old ≤ vec_capacity numbers.new }
+{
+    numbers.extend_from_slice(prefix).unwrap();
+    numbers.extend_from_slice(index).unwrap();
 }
 
 impl FittingBindings {
     /// No bindings, which may have `space` octets, at most `MAX_REPLY`. Where walks stand is kept for the
-    /// last `columns` bindings, for one at least and for `MAX_STANDS` at most. Memory for the names of as
-    /// many bindings as can fit, and for one more, is reserved: so adding one takes none.
+    /// last `columns` bindings, for one at least and for `MAX_STANDS` at most. Memory for as many bindings
+    /// as can fit, and for one more, is reserved: so adding one takes none.
     ///
     /// # Errors
     /// `AllocError` where there is no such memory.
@@ -77,7 +93,8 @@ impl FittingBindings {
         }) }
     {
         Ok(FittingBindings {
-            bindings: EncodedBindings::new(),
+            bindings: EncodedBindings::new(alloc)?,
+            numbers: Vec::with_capacity(alloc, space + MAX_NUMBERS)?,
             names: Vec::with_capacity(alloc, space / LEAST_BINDING + 1)?,
             stands: ArrayVec::new(),
             most_stands: columns.min(MAX_STANDS).max(1),
@@ -86,25 +103,69 @@ impl FittingBindings {
     }
 
     /// Adds the binding of a name and a value where it fits (RFC 3416, 4.2.3), and says whether it
-    /// did. With it is kept where a walk stands at its name. It takes no memory. The caller ensures that
-    /// the binding has an encoding.
-    pub fn offer(&mut self, name: Oid, value: &Value, stand: Stand) -> bool
-        requires { IsEncodableBinding (record { name = name; value = value.now }) }
-        ensures taken { IsTrue result →
-            self.new.bindings ≡ self.old.bindings ++ record { name = name; value = value.now } ∷ [] }
+    /// did. The name is given as a front and what stands behind it. With it is kept where a walk stands at
+    /// the name. It takes no memory. The caller ensures that the name has at most `MAX_NUMBERS` numbers, and
+    /// that the binding has an encoding.
+    pub fn offer(&mut self, prefix: &[u32], index: &[u32], value: &Value, stand: Stand) -> bool
+        requires most { length (prefix.now ++ index.now) ≤ MAX_NUMBERS }
+        requires encodable { IsEncodableBinding
+            (record { name = prefix.now ++ index.now; value = value.now }) }
+        ensures taken { IsTrue result → self.new.bindings
+            ≡ self.old.bindings ++ record { name = prefix.now ++ index.now; value = value.now } ∷ [] }
         ensures stand { IsTrue result →
             self.new.stands ≡ kept self.old.most_stands self.old.stands stand }
         ensures full { result ≡ false → self.new ≡ self.old }
-        ensures fits { result ≡ fit_into self.old.space
-            (self.old.bindings ++ record { name = name; value = value.now } ∷ []) }
+        ensures fits { result ≡ fit_into self.old.space (self.old.bindings
+            ++ record { name = prefix.now ++ index.now; value = value.now } ∷ []) }
         ensures space { self.new.space ≡ self.old.space }
         ensures most_stands { self.new.most_stands ≡ self.old.most_stands }
     {
-        if !self.bindings.push(&name, value, self.space) {
+        let start = self.numbers.len();
+        push_name(&mut self.numbers, prefix, index);
+        if !self
+            .bindings
+            .push(&self.numbers[start..], value, self.space)
+        {
+            self.numbers.truncate(start);
             return false;
         }
-        let is_end = matches!(value, Value::EndOfMibView);
-        self.names.push_reserved(SentName { name, is_end });
+        self.names.push_reserved(SentName {
+            start,
+            end: self.numbers.len(),
+            is_end: is_end(value),
+        });
+        keep(&mut self.stands, self.most_stands, stand);
+        true
+    }
+
+    /// Adds endOfMibView under the name of the binding so many places back, 1 for the last, at most `len`,
+    /// where it fits (RFC 3416, 4.2.3), and says whether it did. With it is kept where a walk stands at that
+    /// name. It takes no memory.
+    pub fn offer_end(&mut self, back: usize, stand: Stand) -> bool
+        requires some { 1 ≤ back }
+        requires there { back ≤ length self.old.bindings }
+        ensures taken { let name = get_or (names_of self.old.bindings)
+            (length self.old.bindings - back) [] in
+            IsTrue result → self.new.bindings ≡ self.old.bindings ++ end_under name ∷ [] }
+        ensures stand { IsTrue result →
+            self.new.stands ≡ kept self.old.most_stands self.old.stands stand }
+        ensures full { result ≡ false → self.new ≡ self.old }
+        ensures fits { let name = get_or (names_of self.old.bindings)
+            (length self.old.bindings - back) [] in
+            result ≡ fit_into self.old.space (self.old.bindings ++ end_under name ∷ []) }
+        ensures space { self.new.space ≡ self.old.space }
+        ensures most_stands { self.new.most_stands ≡ self.old.most_stands }
+    {
+        let SentName { start, end, .. } = self.names[self.names.len() - back];
+        let name = &self.numbers[start..end];
+        if !self.bindings.push(name, &Value::EndOfMibView, self.space) {
+            return false;
+        }
+        self.names.push_reserved(SentName {
+            start,
+            end,
+            is_end: true,
+        });
         keep(&mut self.stands, self.most_stands, stand);
         true
     }
@@ -118,14 +179,15 @@ impl FittingBindings {
     }
 
     /// The name of the binding so many places back, 1 for the last, at most `len`.
-    pub fn name(&self, back: usize) -> &Oid
+    pub fn name(&self, back: usize) -> &[u32]
         requires some { 1 ≤ back }
         requires there { back ≤ length self.now.bindings }
         ensures value { result.now ≡ get_or (names_of self.now.bindings)
             (length self.now.bindings - back) [] }
         ensures root { HasRoot result.now }
     {
-        &self.names[self.names.len() - back].name
+        let SentName { start, end, .. } = self.names[self.names.len() - back];
+        &self.numbers[start..end]
     }
 
     /// Whether each of the last so many bindings, at most `len`, is endOfMibView: those of one repetition.
@@ -155,6 +217,7 @@ impl FittingBindings {
     {
         let FittingBindings {
             bindings,
+            numbers: _,
             names: _,
             stands: _,
             most_stands: _,
@@ -162,6 +225,13 @@ impl FittingBindings {
         } = self;
         bindings
     }
+}
+
+// Whether a value is endOfMibView.
+fn is_end(value: &Value) -> bool
+    ensures { result ≡ is_end value.now }
+{
+    matches!(value, Value::EndOfMibView)
 }
 
 // Whether each binding of which these are kept is endOfMibView.

@@ -48,9 +48,10 @@ fn shows_below<S: Source<L>, L: Ledger>(
     if let Some(_itself) = shown_value(alloc, source, object)? {
         return Ok(true);
     }
-    let mut stand = source.start(object);
+    let numbers = object.as_slice();
+    let mut stand = source.start(numbers);
     let mut spot = Spot::new();
-    if !next_shown(alloc, source, object, false, &mut stand, &mut spot, steps)? {
+    if !next_shown(alloc, source, numbers, false, &mut stand, &mut spot, steps)? {
         return Ok(false);
     }
     Ok(object.is_prefix(&source.name(alloc, &spot)?))

@@ -30,7 +30,7 @@ use steps::Steps;
 pub fn find_next<S: Successors<L>, L: Ledger>(
     alloc: Global,
     source: &S,
-    name: &Oid,
+    name: &[u32],
     goes_on: bool,
     stand: &mut Stand,
     spot: &mut Spot,
@@ -57,8 +57,8 @@ pub fn find_next<S: Successors<L>, L: Ledger>(
     Ok(false)
 }
 
-/// The copy of a name. Only memory can fail, and only above `INLINE_NUMBERS`, 24, numbers.
-pub fn copy_of(alloc: Global, name: &Oid) -> Result<Oid, AllocError>
+// The copy of a name. Only memory can fail, and only above `INLINE_NUMBERS`, 24, numbers.
+fn copy_of(alloc: Global, name: &Oid) -> Result<Oid, AllocError>
     ensures copy { IfOk result (λ copy. copy ≡ name.now) }
     ensures long { OnErr result (INLINE_NUMBERS < length name.now) }
 {
@@ -111,9 +111,10 @@ pub fn get_next<S: Successors<L>, L: Ledger>(
     ensures lacks { OnErr result
         (LacksName (S.shows source.now) (S.instances source.now) name.now) }
 {
-    let mut stand = source.start(name);
+    let numbers = name.as_slice();
+    let mut stand = source.start(numbers);
     let mut spot = Spot::new();
-    let found = find_next(alloc, source, name, false, &mut stand, &mut spot, steps)?;
+    let found = find_next(alloc, source, numbers, false, &mut stand, &mut spot, steps)?;
     make_binding(alloc, source, name, found, &spot)
 }
 

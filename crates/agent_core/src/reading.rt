@@ -62,7 +62,7 @@ fn is_shown_there<S: Successors<L>, L: Ledger>(
 pub fn next_shown<S: Successors<L>, L: Ledger>(
     alloc: Global,
     source: &S,
-    name: &Oid,
+    name: &[u32],
     goes_on: bool,
     stand: &mut Stand,
     spot: &mut Spot,
@@ -110,5 +110,5 @@ fn next_behind<S: Successors<L>, L: Ledger>(
     ensures long { OnErr result (INLINE_NUMBERS < length (S.at source.now spot.old).name) }
 {
     let name = source.name(alloc, spot)?;
-    Ok(source.next(&name, stand, spot, steps))
+    Ok(source.next(name.as_slice(), stand, spot, steps))
 }

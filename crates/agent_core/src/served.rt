@@ -96,7 +96,7 @@ impl<O: MibObject> Served<'_, O> {
     // clause here.
     fn next_uncounted<L: Ledger>(
         &self,
-        name: &Oid,
+        name: &[u32],
         stand: &Stand,
         spot: &mut Spot,
         blank: Blank,
@@ -119,7 +119,6 @@ impl<O: MibObject> Served<'_, O> {
         ensures behind { IsTrue result → first_place stand.now.place ≤ spot.new.place }
     {
         let mut passed: Steps<L> = Steps::new(blank);
-        let name = name.as_slice();
         let Stand {
             place,
             until,
@@ -162,13 +161,13 @@ impl<O: MibObject, L: Ledger> Successors<L> for Served<'_, O> {
         self.registry.known(self.world);
     }
 
-    fn start(&self, name: &Oid) -> Stand {
-        Stand::at(self.registry.place_near(name.as_slice(), NOWHERE))
+    fn start(&self, name: &[u32]) -> Stand {
+        Stand::at(self.registry.place_near(name, NOWHERE))
     }
 
-    fn start_beside(&self, name: &Oid, other: &Stand) -> Stand {
+    fn start_beside(&self, name: &[u32], other: &Stand) -> Stand {
         let near = first_place(other.place);
-        let place = self.registry.place_near(name.as_slice(), near);
+        let place = self.registry.place_near(name, near);
         let until = if near <= first_place(place) {
             other.until
         } else {
@@ -180,7 +179,7 @@ impl<O: MibObject, L: Ledger> Successors<L> for Served<'_, O> {
         }
     }
 
-    fn next(&self, name: &Oid, stand: &mut Stand, spot: &mut Spot, steps: &mut Steps<L>) -> bool {
+    fn next(&self, name: &[u32], stand: &mut Stand, spot: &mut Spot, steps: &mut Steps<L>) -> bool {
         // A step is one lookup here: the objects that it passes over have a ledger of their own.
         steps.tick();
         if !self.next_uncounted::<Brand>(name, stand, spot, Blank::new(1)) {
@@ -188,6 +187,10 @@ impl<O: MibObject, L: Ledger> Successors<L> for Served<'_, O> {
         }
         stand.place = Ok(spot.place);
         true
+    }
+
+    fn prefix(&self, spot: &Spot) -> &[u32] {
+        self.registry.prefix_at(spot.place)
     }
 
     fn name(&self, alloc: Global, spot: &Spot) -> Result<Oid, AllocError> {

@@ -1,6 +1,6 @@
 //! What a walk and a request are answered from, and what a view shows, as traits.
-ghost use Rattle.std.specs.Prelude.{◌≡◌, ◌+◌, ◌<◌, IfOk, IfSome, OnErr, length};
-ghost use Rattle.oid_core.specs.declared.limits.TheConstants.{INLINE_NUMBERS};
+ghost use Rattle.std.specs.Prelude.{◌≡◌, ◌+◌, ◌++◌, ◌<◌, ◌≤◌, IfOk, IfSome, OnErr, length};
+ghost use Rattle.oid_core.specs.declared.limits.TheConstants.{INLINE_NUMBERS, MAX_NUMBERS};
 ghost use Rattle.setphase_core.specs.Walking.{first_place};
 
 use message_core::Value;
@@ -99,25 +99,32 @@ pub trait Successors<L: Ledger>: View {
         ensures { IsServable (instances self.now) };
 
     /// Where a walk from a name stands. It takes no memory.
-    fn start(&self, name: &Oid) -> Stand
+    fn start(&self, name: &[u32]) -> Stand
         ensures { stands self.now result name.now };
 
     /// The same, beside a walk that stands at another name. It may take less time where both names
     /// are under one object, or under neighbours.
-    fn start_beside(&self, name: &Oid, other: &Stand) -> Stand
+    fn start_beside(&self, name: &[u32], other: &Stand) -> Stand
         requires { (at : List ℕ) × stands self.now other.now at }
         ensures { stands self.now result name.now };
 
     /// Writes where the first instance after a name stands, and says whether there is one (RFC 3416,
     /// 4.2.2): the walk stands at its name then; where there is none, it stands at no known name, and
     /// the spot may be any. It is one step, and takes no memory.
-    fn next(&self, name: &Oid, stand: &mut Stand, spot: &mut Spot, steps: &mut Steps<L>) -> bool
+    fn next(&self, name: &[u32], stand: &mut Stand, spot: &mut Spot, steps: &mut Steps<L>) -> bool
         requires { stands self.now stand.old name.now }
         ensures found { (if result then Some (at self.now spot.new) else None)
             ≡ next_of (instances self.now) name.now }
         ensures there { IsTrue result → is_there self.now spot.new }
         ensures stands { IsTrue result → stands self.now stand.new (at self.now spot.new).name }
         ensures work { steps.new ≡ steps.old + 1 };
+
+    /// The front of the name of the instance at a spot, behind which its index stands; together they have
+    /// at most `MAX_NUMBERS`, 128, numbers. It takes no memory.
+    fn prefix(&self, spot: &Spot) -> &[u32]
+        requires { is_there self.now spot.now }
+        ensures name { result.now ++ spot.now.index.items ≡ (at self.now spot.now).name }
+        ensures most { length (at self.now spot.now).name ≤ MAX_NUMBERS };
 
     /// The name of the instance at a spot. Only memory can fail, and only for a name above
     /// `INLINE_NUMBERS`, 24, numbers.

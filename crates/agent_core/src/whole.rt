@@ -50,22 +50,25 @@ impl<O: MibObject, L: Ledger> Successors<L> for Whole<'_, O> {
         self.registry.known(self.world);
     }
 
-    fn start(&self, name: &Oid) -> Stand {
-        Stand::at(self.registry.place_near(name.as_slice(), NOWHERE))
+    fn start(&self, name: &[u32]) -> Stand {
+        Stand::at(self.registry.place_near(name, NOWHERE))
     }
 
-    fn start_beside(&self, name: &Oid, _other: &Stand) -> Stand {
-        Stand::at(self.registry.place_near(name.as_slice(), NOWHERE))
+    fn start_beside(&self, name: &[u32], _other: &Stand) -> Stand {
+        Stand::at(self.registry.place_near(name, NOWHERE))
     }
 
-    fn next(&self, name: &Oid, stand: &mut Stand, spot: &mut Spot, steps: &mut Steps<L>) -> bool {
+    fn next(&self, name: &[u32], stand: &mut Stand, spot: &mut Spot, steps: &mut Steps<L>) -> bool {
         steps.tick();
-        let name = name.as_slice();
         if !self.registry.next_spot(self.world, name, stand.place, spot) {
             return false;
         }
         *stand = Stand::at(Ok(spot.place));
         true
+    }
+
+    fn prefix(&self, spot: &Spot) -> &[u32] {
+        self.registry.prefix_at(spot.place)
     }
 
     fn name(&self, alloc: Global, spot: &Spot) -> Result<Oid, AllocError> {

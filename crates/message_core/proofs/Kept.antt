@@ -1,7 +1,8 @@
 -- Bindings that are kept in their shortest encoding.
-use Rattle.std.proofs.Common.{◌≡◌, ℕ, ◌<◌, ◌≤◌, ◌^◌, List, [], ◌∷◌, ◌++◌, length, take, sym, ap, subst, ◌∙◌, append_assoc, arith, rules, ◌+◌}
-use Rattle.std.proofs.lemmas.List.{take-append-le, length-take, length-take-le}
+use Rattle.std.proofs.Common.{◌≡◌, ℕ, ◌<◌, ◌≤◌, ◌^◌, ◌-◌, List, [], ◌∷◌, ◌++◌, Option, None, Some, MatchOption, false, nat_le, length, take, drop, length-drop, sym, ap, subst, ◌∙◌, append_assoc, arith, rules, ◌+◌}
+use Rattle.std.proofs.lemmas.List.{length-append, take-append-le, length-take, length-take-le}
 use Rattle.std.proofs.Math.Seq.{take-append-add}
+use Rattle.std.proofs.lemmas.Bool.Decides.{nat_tests}
 use borrow.Rule.Slice.PartMut.{put_mid, post_of}
 use Rattle.std.specs.List.{AllByRecursion}
 use Rattle.message_core.specs.declared.binding.Binding.{Binding}
@@ -46,24 +47,46 @@ front_put a k n xs ys few within =
     subst (λ (m : ℕ). take (m + n) (put_mid a k xs ys) ≡ take a xs ++ take n (ys ++ post_of a k xs)) len (take-append-add (take a xs) (ys ++ post_of a k xs) n)
     ∙ ap (λ (o : List ℕ). take a xs ++ o) (take-append-le n ys (post_of a k xs) few)
 
--- the octets of one binding more, written behind those of the bindings that are kept
-more_octets : (a k n : ℕ) (xs ys : List ℕ) (b : Binding) → n ≤ length ys → a ≤ length xs → AreShortest (take a xs) → take n ys ≡ canon_binding b
-    → take (a + n) (put_mid a k xs ys) ≡ canon_bindings (bindings_in (take a xs) ++ b ∷ [])
-more_octets a k n xs ys b few within s e =
-    front_put a k n xs ys few within ∙ ap (λ (o : List ℕ). take a xs ++ o) e
-    ∙ ap (λ (o : List ℕ). o ++ canon_binding b) s.shortest ∙ sym (canon_push (bindings_in (take a xs)) b)
+pub longer : (bs : List Binding) (b : Binding) (most : ℕ) → most < length (canon_bindings bs) + length (canon_binding b)
+    → false ≡ nat_le (length (canon_bindings (bs ++ b ∷ []))) most
+longer bs b most h =
+    let long : most < length (canon_bindings (bs ++ b ∷ [])) = omega (arith, h, ap (λ (o : List ℕ). length o) (canon_push bs b), length-append (canon_bindings bs) (canon_binding b)) in
+    grind (arith, long)
+
+-- how many octets the bindings that are kept have
+pub length_kept : (a : ℕ) (xs : List ℕ) → a ≤ length xs → AreShortest (take a xs) → length (canon_bindings (bindings_in (take a xs))) ≡ a
+length_kept a xs within s = sym (ap (λ (o : List ℕ). length o) s.shortest) ∙ length-take-le a xs within
+
+-- the octets of one binding more, behind those of the bindings that are kept
+more_octets : (a n : ℕ) (xs ys : List ℕ) (b : Binding) → AreShortest (take a xs) → take (a + n) ys ≡ take a xs ++ canon_binding b
+    → take (a + n) ys ≡ canon_bindings (bindings_in (take a xs) ++ b ∷ [])
+more_octets a n xs ys b s e =
+    e ∙ ap (λ (o : List ℕ). o ++ canon_binding b) s.shortest ∙ sym (canon_push (bindings_in (take a xs)) b)
 
 short : (a n : ℕ) (xs : List ℕ) → a + n ≤ MAX_REPLY → length (take (a + n) xs) < 2 ^ 32
 short a n xs most = omega (arith, most, length-take (a + n) xs)
 
-pub more_kept : (a k n : ℕ) (xs ys : List ℕ) (b : Binding) → n ≤ length ys → a ≤ length xs → a + n ≤ MAX_REPLY → AreShortest (take a xs) → HasEncoding b → take n ys ≡ canon_binding b
-    → AreShortest (take (a + n) (put_mid a k xs ys))
-more_kept a k n xs ys b few within most s h e =
-    shortest_of (take (a + n) (put_mid a k xs ys)) (bindings_in (take a xs) ++ b ∷ []) (all_push (bindings_in (take a xs)) b s.each h)
-    (short a n (put_mid a k xs ys) most) (more_octets a k n xs ys b few within s e)
+pub more_kept : (a n : ℕ) (xs ys : List ℕ) (b : Binding) → a + n ≤ MAX_REPLY → AreShortest (take a xs) → HasEncoding b → take (a + n) ys ≡ take a xs ++ canon_binding b
+    → AreShortest (take (a + n) ys)
+more_kept a n xs ys b most s h e =
+    shortest_of (take (a + n) ys) (bindings_in (take a xs) ++ b ∷ []) (all_push (bindings_in (take a xs)) b s.each h)
+    (short a n ys most) (more_octets a n xs ys b s e)
 
-pub more_read : (a k n : ℕ) (xs ys : List ℕ) (b : Binding) → n ≤ length ys → a ≤ length xs → a + n ≤ MAX_REPLY → AreShortest (take a xs) → HasEncoding b → take n ys ≡ canon_binding b
-    → bindings_in (take (a + n) (put_mid a k xs ys)) ≡ bindings_in (take a xs) ++ b ∷ []
-more_read a k n xs ys b few within most s h e =
-    read_of (take (a + n) (put_mid a k xs ys)) (bindings_in (take a xs) ++ b ∷ []) (all_push (bindings_in (take a xs)) b s.each h)
-    (short a n (put_mid a k xs ys) most) (more_octets a k n xs ys b few within s e)
+pub more_read : (a n : ℕ) (xs ys : List ℕ) (b : Binding) → a + n ≤ MAX_REPLY → AreShortest (take a xs) → HasEncoding b → take (a + n) ys ≡ take a xs ++ canon_binding b
+    → bindings_in (take (a + n) ys) ≡ bindings_in (take a xs) ++ b ∷ []
+more_read a n xs ys b most s h e =
+    read_of (take (a + n) ys) (bindings_in (take a xs) ++ b ∷ []) (all_push (bindings_in (take a xs)) b s.each h)
+    (short a n ys most) (more_octets a n xs ys b s e)
+
+-- what was written to the front of a slice of an array, as what stands behind the octets ahead of the slice
+pub behind : (result : Option ℕ) (a most : ℕ) (xs ys more : List ℕ) → a ≤ most → most ≤ length xs → length ys ≡ length (take (most - a) (drop a xs))
+    → MatchOption result (length (take (most - a) (drop a xs)) < length more) (λ n. (n ≡ length more) × (n ≤ length (take (most - a) (drop a xs))) × (take n ys ≡ more))
+    → MatchOption result (most < a + length more) (λ n. (n ≡ length more) × (a + n ≤ most) × (take (a + n) (put_mid a (most - a) xs ys) ≡ take a xs ++ more))
+behind None a most xs ys more within few same s = omega (arith, within, few, s, length-take (most - a) (drop a xs), length-drop a xs)
+behind (Some n) a most xs ys more within few same s =
+    let front : n ≤ length ys = omega (arith, same, s.1) in
+    let ahead : a ≤ length xs = omega (arith, within, few) in (
+      s.0,
+      omega (arith, s.1, within, few, length-take (most - a) (drop a xs), length-drop a xs),
+      front_put a (most - a) n xs ys front ahead ∙ ap (λ (o : List ℕ). take a xs ++ o) s.2,
+    )

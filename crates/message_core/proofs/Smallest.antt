@@ -1,9 +1,12 @@
 -- How few octets a binding has, and a reply beside its bindings.
-use Rattle.std.proofs.Common.{ℕ, ℤ, ◌+◌, ◌≤◌, ◌<◌, List, ◌++◌, length, arith, inl, inr}
+use Rattle.std.proofs.Common.{ℕ, ℤ, ◌+◌, ◌*◌, ◌/◌, ◌%◌, ◌≤◌, ◌<◌, List, [], ◌∷◌, ◌++◌, map, ap, length, arith, inl, inr}
+use Rattle.std.specs.List.{flat_map}
+use Rattle.std.specs.Int.Digits.{digits_of}
+use Rattle.std.proofs.lemmas.List.Concat.{flat_map-cons}
 use Rattle.std.proofs.lemmas.Bool.{lt-ltb, le-ltb, cases_lt}
 use Rattle.std.proofs.lemmas.List.{length-append}
 use Rattle.ber_core.specs.Encoding.{canon_length, canon_tlv}
-use Rattle.oid_core.specs.Name.{canon_name}
+use Rattle.oid_core.specs.Name.{HasRoot, canon_coded, canon_name}
 use Rattle.message_core.specs.Tags as tags
 use Rattle.message_core.specs.Status.{code_of}
 use Rattle.message_core.specs.Canon.{canon_int, canon_name_tlv, canon_value, canon_binding, canon_bindings, canon_tail, canon_body, canon_reply}
@@ -46,6 +49,26 @@ pub binding_some : (b : Binding) → 6 ≤ length (canon_binding b)
 unfolding canon_binding
 binding_some b =
     omega (arith, value_some b.value, tlv_some tags.object_identifier (canon_name b.name), tlv_space tags.sequence (canon_name_tlv b.name ++ canon_value b.value), length-append (canon_name_tlv b.name) (canon_value b.value))
+
+coded_some : (n : ℕ) → 1 ≤ length (canon_coded n)
+unfolding canon_coded
+coded_some n = omega (arith, length-append (map (λ d. 128 + d) (digits_of 128 (n / 128))) (n % 128 ∷ []))
+
+numbers_some : (ns : List ℕ) → length ns ≤ length (flat_map canon_coded ns)
+numbers_some [] = omega arith
+numbers_some (n ∷ ns) = omega (arith, numbers_some ns, coded_some n, ap length (flat_map-cons canon_coded n ns), length-append (canon_coded n) (flat_map canon_coded ns))
+
+-- each number of a name has an octet or more, but that the first two are coded as one
+name_some : (name : List ℕ) → HasRoot name → length name ≤ length (canon_name name) + 1
+unfolding canon_name
+name_some [] root = absurd root
+name_some (a ∷ []) root = absurd root
+name_some (a ∷ b ∷ rest) root = omega (arith, numbers_some ((a * 40 + b) ∷ rest))
+
+pub binding_more : (b : Binding) → HasRoot b.name → length b.name ≤ length (canon_binding b)
+unfolding canon_binding
+binding_more b root =
+    omega (arith, value_some b.value, name_some b.name root, tlv_space tags.object_identifier (canon_name b.name), tlv_space tags.sequence (canon_name_tlv b.name ++ canon_value b.value), length-append (canon_name_tlv b.name) (canon_value b.value))
 
 body_some : (id first second : ℤ) (bs : List Binding) → length (canon_bindings bs) ≤ length (canon_body id first second bs)
 unfolding canon_body canon_tail

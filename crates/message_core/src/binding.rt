@@ -97,8 +97,17 @@ impl Bindings {
         ensures ok { OnOk result (self.new ≡ self.old ++ binding ∷ []) }
         ensures err { OnErr result (self.new ≡ self.old) }
     {
+        self.push_expecting(binding, 1)
+    }
+
+    /// The same for a list that is expected to have so many bindings: the first takes memory for all of
+    /// them. Only time and memory depend on that number.
+    pub fn push_expecting(&mut self, binding: Binding, count: usize) -> Result<(), AllocError>
+        ensures ok { OnOk result (self.new ≡ self.old ++ binding ∷ []) }
+        ensures err { OnErr result (self.new ≡ self.old) }
+    {
         if self.items.is_empty() {
-            self.items.reserve_exact(1)?;
+            self.items.reserve_exact(count)?;
         }
         self.items.push(binding)?;
         Ok(())

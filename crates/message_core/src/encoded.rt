@@ -1,21 +1,23 @@
 //! Bindings that are kept in their shortest encoding.
-ghost use Rattle.std.specs.Prelude.{◌≡◌, ◌≤◌, ◌<◌, ◌^◌, ◌++◌, [], ◌∷◌, length, take, nat_le, IsTrue, false, MatchOption};
+ghost use Rattle.std.specs.Prelude.{◌≡◌, ◌≤◌, ◌<◌, ◌^◌, ◌+◌, ◌++◌, [], ◌∷◌, length, take, nat_le, IsTrue, IfOk, false, MatchOption};
 ghost use Rattle.message_core.specs.Encodable.{IsEncodableBinding, AreEncodable};
 ghost use Rattle.message_core.specs.Canon.{canon_binding, canon_bindings};
 ghost use Rattle.message_core.specs.declared.limits.TheConstants.{MAX_REPLY};
+ghost use Rattle.oid_core.specs.declared.limits.TheConstants.{MAX_NUMBERS};
 
 use crate::limits::MAX_REPLY;
-use crate::ranges::{known_name, known_value};
+use crate::ranges::{known_numbers, known_value};
 use crate::value::Value;
 use crate::writing::put_binding;
 use ber_core::Out;
-use oid_core::Oid;
+use std::alloc::{AllocError, Global};
 use std::marker::Model;
 
 /// Variable bindings in their shortest encoding, one behind the other (RFC 3416, section 3: the content
-/// of a VarBindList), of at most `MAX_REPLY`, 1,472, octets. It takes no memory.
+/// of a VarBindList), of at most `MAX_REPLY`, 1,472, octets.
 pub struct EncodedBindings {
-    octets: [u8; MAX_REPLY],
+    // Boxed, so that the bindings are moved without their octets.
+    octets: Box<[u8; MAX_REPLY]>,
     len: usize,
 }
 
@@ -30,21 +32,22 @@ impl Drop for EncodedBindings {
 }
 
 impl Model for EncodedBindings {
-    ghost use Rattle.std.specs.Prelude.{List, ◌≤◌, take};
+    ghost use Rattle.std.specs.Prelude.{List, ◌≡◌, ◌≤◌, take, length};
     ghost use Rattle.message_core.specs.declared.binding.Binding.{Binding};
     ghost use Rattle.message_core.specs.declared.limits.TheConstants.{MAX_REPLY};
     ghost use Rattle.message_core.specs.Encoded.{bindings_in, AreShortest};
 
     ghost Value = { List Binding };
 
-    ghost view = { λ e. bindings_in (take e.len e.octets) };
+    ghost view = { λ e. bindings_in (take e.len e.octets.value) };
 
-    ghost invariant = { λ e. (e.len ≤ MAX_REPLY) × AreShortest (take e.len e.octets) };
+    ghost invariant = { λ e. (e.len ≤ MAX_REPLY) × (length e.octets.value ≡ MAX_REPLY) ×
+        AreShortest (take e.len e.octets.value) };
 }
 
 // The length of the shortest encoding of a binding that is written to the front of a slice, where it
 // fits there. Where it does not, the slice may hold anything.
-fn write_front(space: &mut [u8], name: &Oid, value: &Value) -> Option<usize>
+fn write_front(space: &mut [u8], name: &[u32], value: &Value) -> Option<usize>
     requires small { length space.old < 2 ^ 32 }
     requires encodable { IsEncodableBinding (record { name = name.now; value = value.now }) }
     ensures { let octets = canon_binding (record { name = name.now; value = value.now }) in
@@ -61,22 +64,48 @@ fn write_front(space: &mut [u8], name: &Oid, value: &Value) -> Option<usize>
     Some(len)
 }
 
+// Writes the shortest encoding of a binding behind so many octets, where all then are at most `most`.
+// It gives the length of that encoding; where there is none, what stands behind those octets may be anything.
+fn write_behind(
+    octets: &mut [u8; MAX_REPLY],
+    len: usize,
+    most: usize,
+    name: &[u32],
+    value: &Value,
+) -> Option<usize>
+    requires within { len ≤ most }
+    requires most { most ≤ MAX_REPLY }
+    requires encodable { IsEncodableBinding (record { name = name.now; value = value.now }) }
+    ensures front { take len octets.new ≡ take len octets.old }
+    ensures same_length { length octets.new ≡ length octets.old }
+    ensures written { let more = canon_binding (record { name = name.now; value = value.now }) in
+        MatchOption result (most < len + length more) (λ count.
+        (count ≡ length more) × (len + count ≤ most)
+        × (take (len + count) octets.new ≡ take len octets.old ++ more)) }
+{
+    write_front(&mut octets[len..most], name, value)
+}
+
 impl EncodedBindings {
-    /// No bindings.
-    pub fn new() -> EncodedBindings
-        ensures { result ≡ [] }
+    /// No bindings. Takes memory for `MAX_REPLY`, 1,472, octets: so adding one takes none.
+    ///
+    /// # Errors
+    /// `AllocError` where there is no such memory.
+    pub fn new(alloc: Global) -> Result<EncodedBindings, AllocError>
+        ensures { IfOk result (λ bindings. bindings ≡ []) }
     {
-        EncodedBindings {
-            octets: [0; MAX_REPLY],
+        Ok(EncodedBindings {
+            octets: Box::new(alloc, [0; MAX_REPLY])?,
             len: 0,
-        }
+        })
     }
 
     /// Adds the binding of a name and a value at the end, where all bindings then have at most `most`
     /// octets, and says whether it did. `most` is at most `MAX_REPLY`, and the bindings have at most so many
-    /// octets already. Takes no memory. The caller ensures that the name, and an OBJECT IDENTIFIER value,
-    /// begin as X.690, 8.19.4 asks.
-    pub fn push(&mut self, name: &Oid, value: &Value, most: usize) -> bool
+    /// octets already. Takes no memory. The caller ensures that the name has at most `MAX_NUMBERS`
+    /// sub-identifiers, and that it, and an OBJECT IDENTIFIER value, begin as X.690, 8.19.4 asks.
+    pub fn push(&mut self, name: &[u32], value: &Value, most: usize) -> bool
+        requires short { length name.now ≤ MAX_NUMBERS }
         requires encodable { IsEncodableBinding (record { name = name.now; value = value.now }) }
         requires most { most ≤ MAX_REPLY }
         requires within { length (canon_bindings self.old) ≤ most }
@@ -86,9 +115,9 @@ impl EncodedBindings {
             self.new ≡ self.old ++ record { name = name.now; value = value.now } ∷ [] }
         ensures full { result ≡ false → self.new ≡ self.old }
     {
-        known_name(name);
+        known_numbers(name);
         known_value(value);
-        match write_front(&mut self.octets[self.len..most], name, value) {
+        match write_behind(&mut self.octets, self.len, most, name, value) {
             None => false,
             Some(len) => {
                 self.len += len;

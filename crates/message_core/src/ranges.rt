@@ -8,8 +8,8 @@ use crate::binding::Binding;
 use crate::value::Value;
 use oid_core::Oid;
 
-// Sub-identifiers are below 2^32.
-fn known_numbers(numbers: &[u32])
+/// Hands on that sub-identifiers are below 2^32 (RFC 2578, 3.5). It does nothing.
+pub fn known_numbers(numbers: &[u32])
     ensures { AllByRecursion (λ n. n < 2 ^ 32) numbers.now }
 {
     let _count = numbers.len();

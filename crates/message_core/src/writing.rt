@@ -18,7 +18,7 @@ use crate::status::ErrorStatus;
 use crate::tag;
 use crate::value::Value;
 use ber_core::{BerFault, Out, Tag};
-use oid_core::{Oid, put_name};
+use oid_core::put_name;
 use thiserror::Error;
 
 /// The message is longer than the buffer.
@@ -45,13 +45,13 @@ enum Listed<'a> {
 }
 
 #[tactic(auto, unfolding(ber_core::specs::Encoding::canon_tlv))]
-fn put_oid(out: &mut Out<'_>, name: &Oid) -> Result<(), BerFault>
+fn put_oid(out: &mut Out<'_>, name: &[u32]) -> Result<(), BerFault>
     requires { HasRoot name.now }
     ensures same_reference { out.new.space.ghost_name ≡ out.old.space.ghost_name }
     ensures puts { Prepends out.old out.new result (canon_name_tlv name.now) }
 {
     let mark = out.len();
-    put_name(out, name.as_slice())?;
+    put_name(out, name)?;
     let len = out.len() - mark;
     out.put_tlv_head(Tag(tag::OBJECT_IDENTIFIER), len)
 }
@@ -68,7 +68,7 @@ pub fn put_value(out: &mut Out<'_>, value: &Value) -> Result<(), BerFault>
         Value::Integer(number) => out.put_i32(Tag(tag::INTEGER), *number),
         Value::OctetString(octets) => out.put_tlv(Tag(tag::OCTET_STRING), octets.as_slice()),
         Value::Null => out.put_tlv(Tag(tag::NULL), &[]),
-        Value::ObjectIdentifier(name) => put_oid(out, name),
+        Value::ObjectIdentifier(name) => put_oid(out, name.as_slice()),
         Value::IpAddress(address) => out.put_tlv(Tag(tag::IP_ADDRESS), address),
         Value::Counter32(count) => out.put_u32(Tag(tag::COUNTER32), *count),
         Value::Gauge32(level) => out.put_u32(Tag(tag::GAUGE32), *level),
@@ -86,7 +86,7 @@ pub fn put_value(out: &mut Out<'_>, value: &Value) -> Result<(), BerFault>
 ///
 /// `NoRoom` where it does not fit. The caller ensures that a name can be encoded.
 #[tactic(auto, unfolding(ber_core::specs::Encoding::canon_tlv, crate::specs::Canon::canon_binding))]
-pub fn put_binding(out: &mut Out<'_>, name: &Oid, value: &Value) -> Result<(), BerFault>
+pub fn put_binding(out: &mut Out<'_>, name: &[u32], value: &Value) -> Result<(), BerFault>
     requires { IsEncodableBinding (record { name = name.now; value = value.now }) }
     ensures same_reference { out.new.space.ghost_name ≡ out.old.space.ghost_name }
     ensures puts { Prepends out.old out.new result
@@ -107,7 +107,7 @@ fn put_bindings(out: &mut Out<'_>, bindings: &[Binding]) -> Result<(), BerFault>
     let mut i = bindings.len();
     while i > 0 {
         i -= 1;
-        put_binding(out, &bindings[i].name, &bindings[i].value)?;
+        put_binding(out, bindings[i].name.as_slice(), &bindings[i].value)?;
     }
     Ok(())
 }

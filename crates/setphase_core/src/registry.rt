@@ -13,7 +13,7 @@ use crate::passing::{Passing, Spot};
 use crate::search::{
     begun_until, owner_name, place_by_search, place_near, place_of, value_of_name,
 };
-use crate::spots::{find_spot, name_there, value_there};
+use crate::spots::{find_spot, name_there, prefix_there, value_there};
 use crate::world::World;
 use message_core::{Binding, Value};
 use oid_core::{Oid, begins, precedes};
@@ -308,6 +308,14 @@ impl<O: MibObject> Registry<O> {
         let objects = self.objects.as_slice();
         steps.tick();
         find_spot(objects, world, name, place, until, passing, spot, steps)
+    }
+
+    /// The name of the object at a place, with which the names of its instances begin. It takes no memory.
+    pub fn prefix_at(&self, place: usize) -> &[u32]
+        requires { place < length self.now }
+        ensures { result.now ≡ prefix_at (prefixes_of (rows_of self.now)) place }
+    {
+        prefix_there(self.objects.as_slice(), place)
     }
 
     /// The name of the instance at a spot. It takes memory only where it has more than

@@ -87,6 +87,14 @@ pub fn name_there<O: MibObject>(
     name_under(alloc, &objects[spot.place], &spot.index)
 }
 
+/// The name of the object at a place.
+pub fn prefix_there<O: MibObject>(objects: &[O], place: usize) -> &[u32]
+    requires { place < length objects.now }
+    ensures { result.now ≡ prefix_at (prefixes_of (rows_of (map O.state objects.now))) place }
+{
+    objects[place].prefix()
+}
+
 // The value of the instance of an object that has an index.
 fn value_under<O: MibObject>(alloc: Global, object: &O, world: &World, index: &Index) -> Value
     requires { IsSome (value_at (shown_by (O.state object.now).row.column world.now)

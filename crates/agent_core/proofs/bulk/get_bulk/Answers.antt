@@ -8,8 +8,13 @@ use Rattle.agent_core.proofs.Fits.{filled_at}
 use Rattle.agent_core.proofs.Longest.{filled_fits}
 use Rattle.agent_core.proofs.LawProofs.{work_within}
 use Rattle.agent_core.specs.Lookups.{most_lookups}
-use Rattle.agent_core.proofs.Lackings.{bulk_lacks}
+use Rattle.agent_core.proofs.Lackings.{bulk_lacks, some_asked}
 use Rattle.agent_core.proofs.bulk.get_bulk.Goals as goal
+
+pub binding_number-requires-clause-some : goal.binding_number-requires-clause-some
+binding_number-requires-clause-some g c =
+    some_asked (g.S.View.shows c.args.source.now) (g.S.Successors.instances c.args.source.now) c.send_list-filled.result c.as_slice-asked.result.now c.in_ok-fitting.fitting.bindings c.send_list-filled.new.fitting.bindings
+    _ c.non_repeaters-once.result c.len-before.result (ap (λ s. s.bindings) c.in_ok-fitting.ensures) (sym c.if-is_err.ensures.value) c.send_list-filled.ensures.lacks c.len-before.ensures.value
 
 pub binding_number-requires-clause-most : goal.binding_number-requires-clause-most
 binding_number-requires-clause-most g c = omega (arith, c.len-before.ensures.most)

@@ -1,9 +1,10 @@
 use Rattle.std.proofs.Common.{length, sym, subst, rules, arith}
+use Rattle.oid_core.specs.Name.{HasRoot}
 use Rattle.message_core.specs.Encodable.{IsEncodableBinding}
 use Rattle.message_core.specs.Instances.{names_of}
 use Rattle.agent_core.specs.Reading.{visible, next_answer}
 use Rattle.agent_core.proofs.Fits.{all_at, once_cut, once_more, names-at, names-length}
-use Rattle.agent_core.specs.Lookups.{most_lookups}
+use Rattle.agent_core.specs.Lookups.{most_lookups, LacksName}
 use Rattle.agent_core.proofs.LookupLemmas.{beside_within, pushed_lookups, cut_lookups}
 use Rattle.setphase_core.proofs.States.{on_err_always}
 use Rattle.agent_core.proofs.Lackings.{once_lacks}
@@ -12,7 +13,7 @@ use Rattle.agent_core.proofs.bulk.repeat_once.Goals as goal
 pub send_next-requires-clause-root : goal.send_next-requires-clause-root
 send_next-requires-clause-root g c =
     let encodable : IsEncodableBinding c.binding-item.result = subst IsEncodableBinding (sym c.binding-item.is) (all_at IsEncodableBinding c.args.asked.now c.loop-binding.binding-index c.binding-item.result c.requires.encodable c.loop-binding-test.true) in
-    encodable.name
+    subst HasRoot (sym c.as_slice.ensures.value) encodable.name
 
 pub returns-then-not-branch-clause-cut : goal.returns-then-not-branch-clause-cut
 returns-then-not-branch-clause-cut g c = λ _ more.
@@ -53,4 +54,5 @@ pub returns-in_err-send_next-clause-lacks : goal.returns-in_err-send_next-clause
 returns-in_err-send_next-clause-lacks g c =
     on_err_always c.from_residual.result
     (once_lacks (g.S.View.shows c.args.lookup.source.now) (g.S.Successors.instances c.args.lookup.source.now) (names_of c.args.asked.now) c.loop-binding.binding-index c.binding-item.result.name c.args.fitting.now.bindings c.loop-binding.fitting.bindings c.send_next.new.fitting.bindings
-    (omega (arith, c.loop-binding-test.true, names-length c.args.asked.now)) (names-at c.args.asked.now c.loop-binding.binding-index c.binding-item.result c.loop-binding-test.true c.binding-item.is) c.loop-binding.invariant.whole c.in_err-send_next.ensures.err c.in_err-send_next.ensures.lacks)
+    (omega (arith, c.loop-binding-test.true, names-length c.args.asked.now)) (names-at c.args.asked.now c.loop-binding.binding-index c.binding-item.result c.loop-binding-test.true c.binding-item.is) c.loop-binding.invariant.whole c.in_err-send_next.ensures.err
+    (subst (LacksName (g.S.View.shows c.args.lookup.source.now) (g.S.Successors.instances c.args.lookup.source.now)) c.as_slice.ensures.value c.in_err-send_next.ensures.lacks))

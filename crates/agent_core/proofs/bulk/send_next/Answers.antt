@@ -1,12 +1,10 @@
-use Rattle.std.proofs.Common.{◌≡◌, ◌∙◌, ◌++◌, [], ◌∷◌, List, Bool, cond, IfOk, IsTrue, sym, ap, subst}
+use Rattle.std.proofs.Common.{◌≡◌, ◌∙◌, ◌++◌, [], ◌∷◌, List, Bool, cond, IsTrue, sym, ap, subst, append-nil}
 use Rattle.message_core.specs.declared.binding.Binding.{Binding}
 use Rattle.agent_core.specs.Reading.{visible, end_under, next_answer}
 use Rattle.agent_core.specs.Fitting.{fit_into}
 use Rattle.agent_core.proofs.Stands.{offered}
 use Rattle.std.specs.Prelude.{Result, Ok}
 use Rattle.std.specs.declared.alloc.AllocError.{AllocError}
-use Rattle.setphase_core.proofs.States.{on_err_always}
-use Rattle.agent_core.proofs.Lacks.{lacks_answer, lacks_made}
 use Rattle.agent_core.proofs.bulk.send_next.Goals as goal
 
 -- the instance that was found
@@ -16,21 +14,22 @@ returns-then-branch-clause-fits g c =
     let rows : List Binding = visible (g.S.View.shows c.args.lookup.source.now) (g.S.Successors.instances c.args.lookup.source.now) in
     let here : Binding = g.S.Successors.at c.args.lookup.source.now c.find_next.new.spot in
     let row : here ≡ next_answer rows c.args.name.now = subst (λ (found : Bool). cond found here (end_under c.args.name.now) ≡ next_answer rows c.args.name.now) c.if-branch.true c.in_ok-find_next.ensures.answer in
-    subst (λ (b : Binding). IfOk c.offer_instance.result (λ taken. taken ≡ fit_into c.args.fitting.now.space (c.args.fitting.now.bindings ++ b ∷ []))) row c.offer_instance.ensures.fits
+    subst (λ (b : Binding). c.offer_instance.result ≡ fit_into c.args.fitting.now.space (c.args.fitting.now.bindings ++ b ∷ [])) row c.offer_instance.ensures.fits
 
 pub returns-then-branch-clause-taken : goal.returns-then-branch-clause-taken
 returns-then-branch-clause-taken g c =
     let rows : List Binding = visible (g.S.View.shows c.args.lookup.source.now) (g.S.Successors.instances c.args.lookup.source.now) in
     let here : Binding = g.S.Successors.at c.args.lookup.source.now c.find_next.new.spot in
     let row : here ≡ next_answer rows c.args.name.now = subst (λ (found : Bool). cond found here (end_under c.args.name.now) ≡ next_answer rows c.args.name.now) c.if-branch.true c.in_ok-find_next.ensures.answer in
-    subst (λ (b : Binding). IfOk c.offer_instance.result (λ taken. IsTrue taken → c.offer_instance.new.fitting.bindings ≡ c.args.fitting.now.bindings ++ b ∷ [])) row c.offer_instance.ensures.taken
+    subst (λ (b : Binding). IsTrue c.offer_instance.result → c.offer_instance.new.fitting.bindings ≡ c.args.fitting.now.bindings ++ b ∷ []) row c.offer_instance.ensures.taken
 
 pub returns-then-branch-clause-stands : goal.returns-then-branch-clause-stands
 returns-then-branch-clause-stands g c =
     let here : Binding = g.S.Successors.at c.args.lookup.source.now c.find_next.new.spot in
-    offered (g.S.Successors.stands c.args.lookup.source.now) c.offer_instance.result c.args.fitting.now c.offer_instance.new.fitting here c.find_next.new.stand c.requires.stands
+    let taken : Result Bool AllocError = Ok c.offer_instance.result in
+    offered (g.S.Successors.stands c.args.lookup.source.now) taken c.args.fitting.now c.offer_instance.new.fitting here c.find_next.new.stand c.requires.stands
     (subst (λ (found : Bool). g.S.Successors.stands c.args.lookup.source.now c.find_next.new.stand (cond found here (end_under c.args.name.now)).name) c.if-branch.true c.in_ok-find_next.ensures.stands)
-    c.offer_instance.ensures.taken c.offer_instance.ensures.stand c.offer_instance.ensures.full c.offer_instance.ensures.err
+    c.offer_instance.ensures.taken c.offer_instance.ensures.stand c.offer_instance.ensures.full tt
 
 -- endOfMibView under the name
 
@@ -38,16 +37,16 @@ pub returns-clause-fits : goal.returns-clause-fits
 returns-clause-fits g c =
     let rows : List Binding = visible (g.S.View.shows c.args.lookup.source.now) (g.S.Successors.instances c.args.lookup.source.now) in
     let here : Binding = g.S.Successors.at c.args.lookup.source.now c.find_next.new.spot in
-    let row : end_under c.in_ok-name.name ≡ next_answer rows c.args.name.now =
-    ap end_under c.in_ok-name.ensures.copy ∙ subst (λ (found : Bool). cond found here (end_under c.args.name.now) ≡ next_answer rows c.args.name.now) c.if-branch.false c.in_ok-find_next.ensures.answer in
+    let row : end_under (c.args.name.now ++ []) ≡ next_answer rows c.args.name.now =
+    ap end_under (append-nil c.args.name.now) ∙ subst (λ (found : Bool). cond found here (end_under c.args.name.now) ≡ next_answer rows c.args.name.now) c.if-branch.false c.in_ok-find_next.ensures.answer in
     subst (λ (b : Binding). c.offer.result ≡ fit_into c.args.fitting.now.space (c.args.fitting.now.bindings ++ b ∷ [])) row c.offer.ensures.fits
 
 pub returns-clause-taken : goal.returns-clause-taken
 returns-clause-taken g c =
     let rows : List Binding = visible (g.S.View.shows c.args.lookup.source.now) (g.S.Successors.instances c.args.lookup.source.now) in
     let here : Binding = g.S.Successors.at c.args.lookup.source.now c.find_next.new.spot in
-    let row : end_under c.in_ok-name.name ≡ next_answer rows c.args.name.now =
-    ap end_under c.in_ok-name.ensures.copy ∙ subst (λ (found : Bool). cond found here (end_under c.args.name.now) ≡ next_answer rows c.args.name.now) c.if-branch.false c.in_ok-find_next.ensures.answer in
+    let row : end_under (c.args.name.now ++ []) ≡ next_answer rows c.args.name.now =
+    ap end_under (append-nil c.args.name.now) ∙ subst (λ (found : Bool). cond found here (end_under c.args.name.now) ≡ next_answer rows c.args.name.now) c.if-branch.false c.in_ok-find_next.ensures.answer in
     subst (λ (b : Binding). IsTrue c.offer.result → c.offer.new.self.bindings ≡ c.args.fitting.now.bindings ++ b ∷ []) row c.offer.ensures.taken
 
 pub returns-clause-stands : goal.returns-clause-stands
@@ -55,22 +54,6 @@ returns-clause-stands g c =
     let here : Binding = g.S.Successors.at c.args.lookup.source.now c.find_next.new.spot in
     let stood = subst (λ (found : Bool). g.S.Successors.stands c.args.lookup.source.now c.find_next.new.stand (cond found here (end_under c.args.name.now)).name) c.if-branch.false c.in_ok-find_next.ensures.stands in
     let taken : Result Bool AllocError = Ok c.offer.result in
-    offered (g.S.Successors.stands c.args.lookup.source.now) taken c.args.fitting.now c.offer.new.self (end_under c.in_ok-name.name) c.find_next.new.stand c.requires.stands
-    (subst (g.S.Successors.stands c.args.lookup.source.now c.find_next.new.stand) (sym c.in_ok-name.ensures.copy) stood)
+    offered (g.S.Successors.stands c.args.lookup.source.now) taken c.args.fitting.now c.offer.new.self (end_under (c.args.name.now ++ [])) c.find_next.new.stand c.requires.stands
+    (subst (g.S.Successors.stands c.args.lookup.source.now c.find_next.new.stand) (sym (append-nil c.args.name.now)) stood)
     c.offer.ensures.taken c.offer.ensures.stand c.offer.ensures.full tt
-
--- a name for which there was no memory
-
-pub returns-then-branch-clause-lacks : goal.returns-then-branch-clause-lacks
-returns-then-branch-clause-lacks g c =
-    let rows : List Binding = visible (g.S.View.shows c.args.lookup.source.now) (g.S.Successors.instances c.args.lookup.source.now) in
-    let here : Binding = g.S.Successors.at c.args.lookup.source.now c.find_next.new.spot in
-    let row : here ≡ next_answer rows c.args.name.now = subst (λ (found : Bool). cond found here (end_under c.args.name.now) ≡ next_answer rows c.args.name.now) c.if-branch.true c.in_ok-find_next.ensures.answer in
-    lacks_made c.offer_instance.result (g.S.View.shows c.args.lookup.source.now) (g.S.Successors.instances c.args.lookup.source.now) c.args.name.now here row c.offer_instance.ensures.long
-
-pub returns-in_err-name-clause-lacks : goal.returns-in_err-name-clause-lacks
-returns-in_err-name-clause-lacks g c =
-    let rows : List Binding = visible (g.S.View.shows c.args.lookup.source.now) (g.S.Successors.instances c.args.lookup.source.now) in
-    let here : Binding = g.S.Successors.at c.args.lookup.source.now c.find_next.new.spot in
-    let row : end_under c.args.name.now ≡ next_answer rows c.args.name.now = subst (λ (found : Bool). cond found here (end_under c.args.name.now) ≡ next_answer rows c.args.name.now) c.if-branch.false c.in_ok-find_next.ensures.answer in
-    on_err_always c.from_residual-in_err-name.result (lacks_answer (g.S.View.shows c.args.lookup.source.now) (g.S.Successors.instances c.args.lookup.source.now) c.args.name.now (end_under c.args.name.now) row c.in_err-name.ensures.long)

@@ -16,7 +16,7 @@ returns-clause-answer g c =
     let rows : List Binding = visible (g.S.View.shows c.args.source.now) (g.S.Successors.instances c.args.source.now) in
     let here : Binding = g.S.Successors.at c.args.source.now c.next_shown.new.spot in
     let none : value_of rows c.args.object.now ≡ None = sym (c.in_ok-_itself.ensures) ∙ c.in_default.is in
-    let next : next_of rows c.args.object.now ≡ Some here = sym (c.in_ok-next_shown.ensures.found) ∙ ap (λ b. cond b (Some here) None) c.if-not-branch.false in
+    let next : next_of rows c.args.object.now ≡ Some here = sym (c.in_ok-next_shown.ensures.found ∙ ap (next_of rows) c.as_slice-numbers.ensures.value) ∙ ap (λ b. cond b (Some here) None) c.if-not-branch.false in
     c.is_prefix.ensures.test ∙ ap (is_prefix c.args.object.now) c.in_ok-name.ensures.name
     ∙ sym (below-first c.args.object.now rows (visible-rising (g.S.View.shows c.args.source.now) (g.S.Successors.instances c.args.source.now) c.known.ensures.rising) none ∙ ap (first_below c.args.object.now) next)
 
@@ -25,5 +25,5 @@ returns-then-not-branch-clause-answer g c =
     let rows : List Binding = visible (g.S.View.shows c.args.source.now) (g.S.Successors.instances c.args.source.now) in
     let here : Binding = g.S.Successors.at c.args.source.now c.next_shown.new.spot in
     let none : value_of rows c.args.object.now ≡ None = sym (c.in_ok-_itself.ensures) ∙ c.in_default.is in
-    let next : next_of rows c.args.object.now ≡ None = sym (c.in_ok-next_shown.ensures.found) ∙ ap (λ b. cond b (Some here) None) c.if-not-branch.true in
+    let next : next_of rows c.args.object.now ≡ None = sym (c.in_ok-next_shown.ensures.found ∙ ap (next_of rows) c.as_slice-numbers.ensures.value) ∙ ap (λ b. cond b (Some here) None) c.if-not-branch.true in
     sym (below-first c.args.object.now rows (visible-rising (g.S.View.shows c.args.source.now) (g.S.Successors.instances c.args.source.now) c.known.ensures.rising) none ∙ ap (first_below c.args.object.now) next)

@@ -1,9 +1,13 @@
-use Rattle.std.proofs.Common.{◌-◌, ◌∙◌, ap, sym, drop, length}
+use Rattle.std.proofs.Common.{◌≡◌, ◌-◌, ◌∙◌, ap, drop, length, arith}
 use Rattle.agent_core.specs.Bulk.{all_end}
-use Rattle.agent_core.proofs.SentNames.{last_end}
+use Rattle.agent_core.proofs.SentNames.{names_count, last_end}
 use Rattle.agent_core.proofs.fitting.FittingBindings.has_ended.Goals as goal
 
 pub returns : goal.returns
 returns c =
-    c.are_ends.ensures ∙ last_end c.self.inside.bindings c.self.inside.names.items c.deref.result.now c.len.result c.args.count c.deref.ensures.value (c.len.ensures ∙ sym c.deref.ensures.len ∙ ap length c.deref.ensures.value) c.self.invariant.0.names_are
+    let kept = c.self.inside in
+    let sent = c.self.invariant.0 in
+    let size : c.len.result ≡ length kept.names.items = omega (arith, c.len.ensures) in
+    c.are_ends.ensures
+    ∙ last_end kept.bindings kept.names.items c.deref.result.now c.len.result c.args.count c.deref.ensures.value size (names_count kept.numbers.items kept.names.items kept.bindings sent.names_are) sent.ends_are
     ∙ ap (λ s. all_end (drop (length s.bindings - c.args.count) s.bindings)) c.self.view_is
