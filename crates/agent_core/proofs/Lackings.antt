@@ -10,7 +10,7 @@ use Rattle.std.proofs.Math.Seq.{drop-append_seam}
 use Rattle.message_core.specs.declared.binding.Binding.{Binding}
 use Rattle.message_core.specs.Instances.{names_of}
 use Rattle.agent_core.specs.Reading.{visible, next_answer, next_answers}
-use Rattle.agent_core.specs.Lookups.{LacksName}
+use Rattle.agent_core.specs.Lookups.{PassesLong}
 use Rattle.message_core.specs.declared.limits.TheConstants.{MAX_REPLY}
 use Rattle.message_core.specs.declared.request.Request.{Request}
 use Rattle.agent_core.specs.Fitting.{reply_size}
@@ -71,7 +71,7 @@ module _ (shows : Name → Bool) (all_rows : List Binding) where
   rows = visible shows all_rows
 
   pub once_lacks : (names : List Name) (i : ℕ) (name : Name) (old now new : List Binding) → i < length names → name ≡ get_or names i name →
-      now ≡ old ++ next_answers rows (take i names) → new ≡ now → LacksName shows all_rows name →
+      now ≡ old ++ next_answers rows (take i names) → new ≡ now → PassesLong shows all_rows name →
       IsLacking shows all_rows (λ found. names) old (old ++ next_answers rows names) new
   once_lacks names i name old now new h at so same lacks =
       let b : Binding = next_answer rows name in

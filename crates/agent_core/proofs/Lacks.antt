@@ -9,10 +9,10 @@ use Rattle.oid_core.proofs.OrderLaws.{name_lt-irrefl, name_lt-trans, any_two, be
 use Rattle.message_core.specs.declared.binding.Binding.{Binding}
 use Rattle.message_core.specs.Instances.{IsRising, IsLeastAfter, next_of, after}
 use Rattle.message_core.proofs.Rising.{first_least}
-use Rattle.agent_core.specs.Reading.{visible, end_under, or_end, next_answer}
+use Rattle.agent_core.specs.Reading.{visible, or_end, next_answer}
 use Rattle.std.specs.Prelude.{Result, Ok, Err, OnErr}
 use Rattle.std.specs.declared.alloc.AllocError.{AllocError}
-use Rattle.agent_core.specs.Lookups.{IsPassed, LacksName, of_instance, of_end}
+use Rattle.agent_core.specs.Lookups.{IsPassed, PassesLong, LacksName, of_instance, of_end}
 
 Contains-at_front : (x : Binding) (xs : List Binding) (row : Binding) → x ≡ row → Contains (x ∷ xs) row
 Contains-at_front x xs row same = (0, omega arith, same)
@@ -90,19 +90,13 @@ passed_shown shows rows name row e =
       until = λ other k. let same : row ≡ other = cc in ap (λ (r : Binding). name_lt r.name row.name) (sym same) ∙ name_lt-irrefl row.name;
     }
 
--- the name of a binding that is answered
-pub lacks_found : (shows : List ℕ → Bool) (rows : List Binding) (name : List ℕ) (found : Bool) (row : Binding) → cond found (Some row) None ≡ next_of (visible shows rows) name →
-    INLINE_NUMBERS < length (cond found row (end_under name)).name → LacksName shows rows name
-lacks_found shows rows name true row e long = of_instance row (passed_shown shows rows name row (sym e)) long
-lacks_found shows rows name false row e long = of_end (sym e) long
-
--- the same of the answer itself
+-- the name of the answer itself
 pub lacks_answer : (shows : List ℕ → Bool) (rows : List Binding) (name : List ℕ) (b : Binding) → b ≡ next_answer (visible shows rows) name → INLINE_NUMBERS < length b.name → LacksName shows rows name
 lacks_answer shows rows name b e long = by (next_of (visible shows rows) name) refl (subst (λ (x : Binding). INLINE_NUMBERS < length x.name) e long)
   where
     by : (o : Option Binding) → next_of (visible shows rows) name ≡ o → INLINE_NUMBERS < length (or_end o name).name → LacksName shows rows name
     by None none l = of_end none l
-    by (Some row) is l = of_instance row (passed_shown shows rows name row is) l
+    by (Some row) is l = of_instance (record { row = row; passed = passed_shown shows rows name row is; long = l })
 
 pub lacks_made : {A : Type 0} (result : Result A AllocError) (shows : List ℕ → Bool) (rows : List Binding) (name : List ℕ) (b : Binding) → b ≡ next_answer (visible shows rows) name →
     OnErr result (INLINE_NUMBERS < length b.name) → OnErr result (LacksName shows rows name)
@@ -110,12 +104,19 @@ lacks_made (Ok x) shows rows name b e h = tt
 lacks_made (Err err) shows rows name b e h = lacks_answer shows rows name b e h
 
 -- over more instances, of which the view shows the same
+pub passes_more : (shows : List ℕ → Bool) (few all : List Binding) (name : List ℕ) → visible shows few ≡ visible shows all → ((row : Binding) → Contains few row → Contains all row) →
+    PassesLong shows few name → PassesLong shows all name
+passes_more shows few all name same more h = record {
+  row = h.row;
+  passed = record {
+    contained = more h.row h.passed.contained;
+    greater = h.passed.greater;
+    until = λ found e. h.passed.until found (ap (λ (rows : List Binding). next_of rows name) same ∙ e);
+  };
+  long = h.long;
+}
+
 pub lacks_more : (shows : List ℕ → Bool) (few all : List Binding) (name : List ℕ) → visible shows few ≡ visible shows all → ((row : Binding) → Contains few row → Contains all row) →
     LacksName shows few name → LacksName shows all name
-lacks_more shows few all name same more (of_instance row passed long) =
-    of_instance row (record {
-      contained = more row passed.contained;
-      greater = passed.greater;
-      until = λ found e. passed.until found (ap (λ (rows : List Binding). next_of rows name) same ∙ e);
-    }) long
+lacks_more shows few all name same more (of_instance h) = of_instance (passes_more shows few all name same more h)
 lacks_more shows few all name same more (of_end none long) = of_end (ap (λ (rows : List Binding). next_of rows name) (sym same) ∙ none) long

@@ -23,7 +23,7 @@ use Rattle.agent_core.specs.Replies.{kind_reply}
 use Rattle.agent_core.specs.Reading.{visible, next_answer}
 use Rattle.agent_core.specs.Bulk.{asked_list}
 use Rattle.agent_core.specs.Lacking.{LacksNameOf}
-use Rattle.agent_core.proofs.Lacks.{lacks_more}
+use Rattle.agent_core.proofs.Lacks.{lacks_more, passes_more}
 use Rattle.agent_core.proofs.Apart.{no_other}
 use Rattle.agent_core.proofs.LawProofs.{kind_same}
 use Rattle.agent_core.proofs.Pairs.{pairs_head, pairs_tail}
@@ -140,7 +140,7 @@ lacks_by shows few all request GetBulk i same more h = record {
   list = subst (λ (rows : List Binding). h.found ++ next_answer rows h.name ∷ h.rest ≡ asked_list rows request) same h.list;
   fits = h.fits;
   asked = h.asked;
-  lacks = lacks_more shows few all h.name same more h.lacks;
+  lacks = passes_more shows few all h.name same more h.lacks;
   number = h.number;
 }
 lacks_by shows few all request Set i same more h = h

@@ -7,7 +7,7 @@ use Rattle.message_core.specs.declared.request.Kind.TheVariants.{Get, GetNext, G
 use Rattle.message_core.specs.declared.request.Request.{Request}
 use Rattle.message_core.specs.Instances.{names_of}
 use Rattle.agent_core.specs.Reading.{visible, next_answer}
-use Rattle.agent_core.specs.Lookups.{LacksName}
+use Rattle.agent_core.specs.Lookups.{LacksName, PassesLong}
 use Rattle.agent_core.specs.Bulk.{asked_list, count_of}
 use Rattle.agent_core.specs.Fitting.{reply_size}
 use Rattle.agent_core.specs.declared.shortage.Shortage.{Shortage}
@@ -39,8 +39,8 @@ binding_number once columns before =
 abbrev pub bulk_names : List (List ℕ) → ℕ → List Binding → List (List ℕ)
 bulk_names names once found = names ++ drop once (names_of found)
 
--- A list was sent as far as `found`, which stands behind `old`: its next member answers a name under
--- which a long name is made.
+-- A list was sent as far as `found`, which stands behind `old`: its next member answers a name from
+-- which a walk passes an instance with a long name, or ends at it.
 pub record IsLacking (shows : List ℕ → Bool) (rows : List Binding)
     (names : List Binding → List (List ℕ)) (old all sent : List Binding) : Type 0 where
   pub found : List Binding
@@ -49,15 +49,15 @@ pub record IsLacking (shows : List ℕ → Bool) (rows : List Binding)
   pub asked : slice_get (names found) (length found) ≡ Some name
   pub rest : List Binding
   pub list : sent ++ next_answer (visible shows rows) name ∷ rest ≡ all
-  pub lacks : LacksName shows rows name
+  pub lacks : PassesLong shows rows name
 
 -- how many bindings of a request are asked once
 abbrev pub non_repeaters : Request → ℕ
 non_repeaters request = min (count_of request.first) (length request.bindings)
 
 -- A GetBulk: first members of the list that is asked for, which fit into the reply, and a next one,
--- sent or not, under whose name a long name is made; i is the number of its binding, in whichever
--- repetition (RFC 3416, 4.2.3).
+-- sent or not, from whose name a walk passes an instance with a long name, or ends at it; i is the number
+-- of its binding, in whichever repetition (RFC 3416, 4.2.3).
 pub record LacksBulkName (shows : List ℕ → Bool) (rows : List Binding) (request : Request)
     (i : ℕ) : Type 0 where
   pub found : List Binding
@@ -69,7 +69,7 @@ pub record LacksBulkName (shows : List ℕ → Bool) (rows : List Binding) (requ
   pub asked : slice_get
       (bulk_names (names_of request.bindings) (non_repeaters request) found) (length found)
       ≡ Some name
-  pub lacks : LacksName shows rows name
+  pub lacks : PassesLong shows rows name
   pub number : i ≡ binding_number (non_repeaters request)
       (length request.bindings - non_repeaters request) (length found)
 

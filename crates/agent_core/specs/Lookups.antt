@@ -25,10 +25,15 @@ pub record IsPassed (shows : List ℕ → Bool) (rows : List Binding) (name : Li
   pub until : (found : Binding) → next_of (visible shows rows) name ≡ Some found →
       name_lt found.name row.name ≡ false
 
+-- A walk from a name passes an instance whose name has more than 24 numbers, or ends at it.
+pub record PassesLong (shows : List ℕ → Bool) (rows : List Binding) (name : List ℕ) : Type 0 where
+  pub row : Binding
+  pub passed : IsPassed shows rows name row
+  pub long : INLINE_NUMBERS < length row.name
+
 -- What GetNext answers under a name takes a name of more than 24 numbers: that of an instance that the
 -- walk passes or ends at, or the name itself, under endOfMibView.
 pub data LacksName (shows : List ℕ → Bool) (rows : List Binding) (name : List ℕ) : Type 0 where
-  of_instance : (row : Binding) (passed : IsPassed shows rows name row)
-      (long : INLINE_NUMBERS < length row.name) → LacksName shows rows name
+  of_instance : PassesLong shows rows name → LacksName shows rows name
   of_end : (none : next_of (visible shows rows) name ≡ None) (long : INLINE_NUMBERS < length name) →
       LacksName shows rows name

@@ -6,7 +6,7 @@ ghost use Rattle.message_core.specs.Encodable.{AreEncodable, IsEncodableBinding}
 ghost use Rattle.message_core.specs.declared.limits.TheConstants.{MAX_COMMUNITY};
 ghost use Rattle.message_core.specs.Instances.{names_of};
 ghost use Rattle.agent_core.specs.Reading.{visible, next_answer, next_answers};
-ghost use Rattle.agent_core.specs.Lookups.{most_lookups, LacksName};
+ghost use Rattle.agent_core.specs.Lookups.{most_lookups, PassesLong};
 ghost use Rattle.agent_core.specs.Lacking.{IsLacking, LacksBulkName, IfName, bulk_names, binding_number};
 ghost use Rattle.agent_core.specs.Bulk.{repetitions, further, bulk_list, count_of, asked_list};
 ghost use Rattle.agent_core.specs.Sending.{kept, AreStands};
@@ -130,7 +130,7 @@ fn send_next<S: Successors<L>, L: Ledger>(
     ensures space { fitting.new.space ≡ fitting.old.space }
     ensures err { OnErr result (fitting.new.bindings ≡ fitting.old.bindings) }
     ensures lacks { OnErr result
-        (LacksName (S.shows lookup.entry.source.now) (S.instances lookup.entry.source.now) name.now) }
+        (PassesLong (S.shows lookup.entry.source.now) (S.instances lookup.entry.source.now) name.now) }
     ensures work { steps.new ≤ steps.old + most_lookups (S.shows lookup.entry.source.now)
         (S.instances lookup.entry.source.now) }
 {
@@ -215,7 +215,7 @@ fn send_successor<S: Successors<L>, L: Ledger>(
         (names_of fitting.new.bindings) }
     ensures space { fitting.new.space ≡ fitting.old.space }
     ensures err { OnErr result (fitting.new.bindings ≡ fitting.old.bindings) }
-    ensures lacks { OnErr result (LacksName (S.shows lookup.entry.source.now)
+    ensures lacks { OnErr result (PassesLong (S.shows lookup.entry.source.now)
         (S.instances lookup.entry.source.now)
         (get_or (names_of fitting.old.bindings) (length fitting.old.bindings - back) [])) }
     ensures work { steps.new ≤ steps.old + most_lookups (S.shows lookup.entry.source.now)

@@ -6,7 +6,7 @@ ghost use Rattle.message_core.specs.Encodable.{IsEncodableBinding};
 ghost use Rattle.message_core.specs.Instances.{names_of};
 ghost use Rattle.agent_core.specs.Reading.{visible, next_answer, next_answers};
 ghost use Rattle.agent_core.specs.Making.{binding_of};
-ghost use Rattle.agent_core.specs.Lookups.{most_lookups, LacksName};
+ghost use Rattle.agent_core.specs.Lookups.{most_lookups, LacksName, PassesLong};
 ghost use Rattle.agent_core.specs.Lacking.{LacksNextName, IfName};
 
 use crate::reading::next_shown;
@@ -46,7 +46,7 @@ pub fn find_next<S: Successors<L>, L: Ledger>(
         (binding_of (S.at source.now) name.now spot.new found).name) }
     ensures work { steps.new ≤ steps.old + most_lookups (S.shows source.now) (S.instances source.now) }
     ensures lacks { OnErr result
-        (LacksName (S.shows source.now) (S.instances source.now) name.now) }
+        (PassesLong (S.shows source.now) (S.instances source.now) name.now) }
 {
     source.known();
     let before = *stand;

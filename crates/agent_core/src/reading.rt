@@ -3,7 +3,7 @@ ghost use Rattle.std.specs.Prelude.{◌≡◌, ◌≤◌, ◌<◌, ◌+◌, if�
 ghost use Rattle.oid_core.specs.declared.limits.TheConstants.{INLINE_NUMBERS};
 ghost use Rattle.message_core.specs.Instances.{next_of};
 ghost use Rattle.agent_core.specs.Reading.{visible};
-ghost use Rattle.agent_core.specs.Lookups.{most_lookups, LacksName};
+ghost use Rattle.agent_core.specs.Lookups.{most_lookups, PassesLong};
 
 use crate::source::{Stand, Successors};
 use oid_core::Oid;
@@ -76,7 +76,7 @@ pub fn next_shown<S: Successors<L>, L: Ledger>(
         S.stands source.now stand.new (S.at source.now spot.new).name) }
     ensures work { steps.new ≤ steps.old + most_lookups (S.shows source.now) (S.instances source.now) }
     ensures lacks { OnErr result
-        (LacksName (S.shows source.now) (S.instances source.now) name.now) }
+        (PassesLong (S.shows source.now) (S.instances source.now) name.now) }
 {
     source.known();
     let mut found = source.next(name, stand, spot, steps);

@@ -2,7 +2,6 @@
 use Rattle.std.proofs.Common.{◌≡◌, ℕ, ◌<◌, ◌≤◌, ◌^◌, ◌-◌, List, [], ◌∷◌, ◌++◌, Option, None, Some, MatchOption, false, nat_le, length, take, drop, length-drop, sym, ap, subst, ◌∙◌, append_assoc, arith, rules, ◌+◌}
 use Rattle.std.proofs.lemmas.List.{length-append, take-append-le, length-take, length-take-le}
 use Rattle.std.proofs.Math.Seq.{take-append-add}
-use Rattle.std.proofs.lemmas.Bool.Decides.{nat_tests}
 use borrow.Rule.Slice.PartMut.{put_mid, post_of}
 use Rattle.std.specs.List.{AllByRecursion}
 use Rattle.message_core.specs.declared.binding.Binding.{Binding}

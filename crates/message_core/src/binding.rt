@@ -1,5 +1,5 @@
 //! A variable binding, and a list of them (RFC 3416, section 3).
-ghost use Rattle.std.specs.Prelude.{◌≡◌, ◌≢◌, ◌↔◌, [], ◌∷◌, ◌++◌, IsTrue, IsOk, IfOk, OnOk, OnErr};
+ghost use Rattle.std.specs.Prelude.{◌≡◌, ◌≢◌, ◌<◌, ◌↔◌, [], ◌∷◌, ◌++◌, length, vec_capacity, IsTrue, IsOk, IfOk, OnOk, OnErr};
 ghost use Rattle.message_core.specs.Inline.{IsInlineBinding};
 ghost use Rattle.message_core.specs.Encodable.{IsEncodableBinding};
 
@@ -66,6 +66,21 @@ impl Model for Bindings {
     ghost view = { λ b. b.items.items };
 }
 
+// Takes memory for another binding where all that there is holds one. The first takes memory for itself
+// alone.
+fn make_space(items: &mut Vec<Binding>) -> Result<(), AllocError>
+    ensures same { items.new.items ≡ items.old.items }
+    ensures space { OnOk result (length items.new.items < vec_capacity items.new) }
+{
+    if items.len() < items.capacity() {
+        return Ok(());
+    }
+    if items.is_empty() {
+        return items.reserve_exact(1);
+    }
+    items.reserve(1)
+}
+
 impl Bindings {
     /// No bindings.
     pub fn new(alloc: Global) -> Bindings
@@ -91,25 +106,21 @@ impl Bindings {
         items
     }
 
-    /// Adds a binding at the end. Takes memory; without it nothing changes, and the binding is
-    /// dropped. Most lists have one binding, so the first takes memory for itself alone.
+    /// Takes memory for so many bindings more. Without it nothing changes.
+    pub fn reserve(&mut self, more: usize) -> Result<(), AllocError>
+        ensures { self.new ≡ self.old }
+    {
+        self.items.reserve_exact(more)
+    }
+
+    /// Adds a binding at the end. Takes memory where none is reserved; without it nothing changes, and the
+    /// binding is dropped. Most lists have one binding, so the first takes memory for itself alone.
     pub fn push(&mut self, binding: Binding) -> Result<(), AllocError>
         ensures ok { OnOk result (self.new ≡ self.old ++ binding ∷ []) }
         ensures err { OnErr result (self.new ≡ self.old) }
     {
-        self.push_expecting(binding, 1)
-    }
-
-    /// The same for a list that is expected to have so many bindings: the first takes memory for all of
-    /// them. Only time and memory depend on that number.
-    pub fn push_expecting(&mut self, binding: Binding, count: usize) -> Result<(), AllocError>
-        ensures ok { OnOk result (self.new ≡ self.old ++ binding ∷ []) }
-        ensures err { OnErr result (self.new ≡ self.old) }
-    {
-        if self.items.is_empty() {
-            self.items.reserve_exact(count)?;
-        }
-        self.items.push(binding)?;
+        make_space(&mut self.items)?;
+        self.items.push_reserved(binding);
         Ok(())
     }
 

@@ -16,7 +16,7 @@ use std::marker::Model;
 /// Variable bindings in their shortest encoding, one behind the other (RFC 3416, section 3: the content
 /// of a VarBindList), of at most `MAX_REPLY`, 1,472, octets.
 pub struct EncodedBindings {
-    // Boxed, so that the bindings are moved without their octets.
+    // Boxed, so that bindings are moved without their octets.
     octets: Box<[u8; MAX_REPLY]>,
     len: usize,
 }
@@ -64,8 +64,8 @@ fn write_front(space: &mut [u8], name: &[u32], value: &Value) -> Option<usize>
     Some(len)
 }
 
-// Writes the shortest encoding of a binding behind so many octets, where all then are at most `most`.
-// It gives the length of that encoding; where there is none, what stands behind those octets may be anything.
+// The length of the shortest encoding of a binding that is written behind so many octets, where there are
+// then at most `most` octets. Where there are more, what stands behind those octets may be anything.
 fn write_behind(
     octets: &mut [u8; MAX_REPLY],
     len: usize,

@@ -15,9 +15,8 @@ pub fn known_numbers(numbers: &[u32])
     let _count = numbers.len();
 }
 
-/// Hands on that a name has at most `MAX_NUMBERS` sub-identifiers, each below 2^32 (RFC 2578, 3.5). It
-/// does nothing.
-pub fn known_name(name: &Oid)
+// Hands on that a name has at most `MAX_NUMBERS` sub-identifiers, each below 2^32 (RFC 2578, 3.5).
+fn known_name(name: &Oid)
     ensures { FitsName name.now }
 {
     known_numbers(name.as_slice());

@@ -4,7 +4,7 @@ use Rattle.message_core.specs.Encodable.{IsEncodableBinding}
 use Rattle.message_core.specs.Instances.{names_of}
 use Rattle.agent_core.specs.Reading.{visible, next_answer}
 use Rattle.agent_core.proofs.Fits.{all_at, once_cut, once_more, names-at, names-length}
-use Rattle.agent_core.specs.Lookups.{most_lookups, LacksName}
+use Rattle.agent_core.specs.Lookups.{most_lookups, PassesLong}
 use Rattle.agent_core.proofs.LookupLemmas.{beside_within, pushed_lookups, cut_lookups}
 use Rattle.setphase_core.proofs.States.{on_err_always}
 use Rattle.agent_core.proofs.Lackings.{once_lacks}
@@ -55,4 +55,4 @@ returns-in_err-send_next-clause-lacks g c =
     on_err_always c.from_residual.result
     (once_lacks (g.S.View.shows c.args.lookup.source.now) (g.S.Successors.instances c.args.lookup.source.now) (names_of c.args.asked.now) c.loop-binding.binding-index c.binding-item.result.name c.args.fitting.now.bindings c.loop-binding.fitting.bindings c.send_next.new.fitting.bindings
     (omega (arith, c.loop-binding-test.true, names-length c.args.asked.now)) (names-at c.args.asked.now c.loop-binding.binding-index c.binding-item.result c.loop-binding-test.true c.binding-item.is) c.loop-binding.invariant.whole c.in_err-send_next.ensures.err
-    (subst (LacksName (g.S.View.shows c.args.lookup.source.now) (g.S.Successors.instances c.args.lookup.source.now)) c.as_slice.ensures.value c.in_err-send_next.ensures.lacks))
+    (subst (PassesLong (g.S.View.shows c.args.lookup.source.now) (g.S.Successors.instances c.args.lookup.source.now)) c.as_slice.ensures.value c.in_err-send_next.ensures.lacks))

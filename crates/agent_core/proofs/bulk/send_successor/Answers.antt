@@ -7,7 +7,7 @@ use Rattle.agent_core.proofs.Stands.{offered}
 use Rattle.std.specs.Prelude.{Result, Ok}
 use Rattle.std.specs.declared.alloc.AllocError.{AllocError}
 use Rattle.setphase_core.proofs.States.{on_err_always}
-use Rattle.agent_core.specs.Lookups.{LacksName}
+use Rattle.agent_core.specs.Lookups.{PassesLong}
 use Rattle.agent_core.proofs.bulk.send_successor.Goals as goal
 
 -- the instance that was found
@@ -72,4 +72,4 @@ returns-clause-stands g c =
 pub returns-in_err-find_next-clause-lacks : goal.returns-in_err-find_next-clause-lacks
 returns-in_err-find_next-clause-lacks g c =
     let name : c.name-before.result.now ≡ get_or (names_of c.args.fitting.now.bindings) (length c.args.fitting.now.bindings - c.args.back) [] = c.name-before.ensures.value in
-    on_err_always c.from_residual.result (subst (LacksName (g.S.View.shows c.args.lookup.source.now) (g.S.Successors.instances c.args.lookup.source.now)) name c.in_err-find_next.ensures.lacks)
+    on_err_always c.from_residual.result (subst (PassesLong (g.S.View.shows c.args.lookup.source.now) (g.S.Successors.instances c.args.lookup.source.now)) name c.in_err-find_next.ensures.lacks)

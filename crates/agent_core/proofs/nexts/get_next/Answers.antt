@@ -1,8 +1,15 @@
 use Rattle.std.proofs.Common.{◌≡◌, List, ℕ, subst}
 use Rattle.agent_core.specs.Reading.{visible, next_answer}
+use Rattle.setphase_core.proofs.States.{on_err_always}
+use Rattle.agent_core.specs.Lookups.{PassesLong, of_instance}
 use Rattle.agent_core.specs.Making.{binding_of}
 use Rattle.agent_core.proofs.Lacks.{lacks_made}
 use Rattle.agent_core.proofs.nexts.get_next.Goals as goal
+
+pub returns-in_err-found-clause-lacks : goal.returns-in_err-found-clause-lacks
+returns-in_err-found-clause-lacks g c =
+    on_err_always c.from_residual.result
+    (of_instance (subst (PassesLong (g.S.View.shows c.args.source.now) (g.S.Successors.instances c.args.source.now)) c.as_slice-numbers.ensures.value c.in_err-found.ensures.lacks))
 
 pub returns-clause-lacks : goal.returns-clause-lacks
 returns-clause-lacks g c =

@@ -5,7 +5,6 @@ use Rattle.agent_core.proofs.Rest.{from, next-visible, from_shorter, from_hidden
 use Rattle.agent_core.proofs.LookupLemmas.{first_lookup, next_lookup}
 use Rattle.agent_core.proofs.Lacks.{passed_first, passed_next}
 use Rattle.setphase_core.proofs.States.{on_err_always}
-use Rattle.agent_core.specs.Lookups.{of_instance}
 use Rattle.agent_core.proofs.reading.next_shown.Goals as goal
 
 pub loop-found-init : goal.loop-found-init
@@ -52,8 +51,8 @@ loop-found-preserved g c =
 
 pub returns-in_err-is_shown_there-clause-lacks : goal.returns-in_err-is_shown_there-clause-lacks
 returns-in_err-is_shown_there-clause-lacks g c =
-    on_err_always c.from_residual.result (of_instance (g.S.Successors.at c.args.source.now c.loop-found.spot) (c.loop-found.invariant.passed c.loop-found-test.true) c.in_err-is_shown_there.ensures.long)
+    on_err_always c.from_residual.result (record { row = g.S.Successors.at c.args.source.now c.loop-found.spot; passed = c.loop-found.invariant.passed c.loop-found-test.true; long = c.in_err-is_shown_there.ensures.long })
 
 pub returns-in_err-found-clause-lacks : goal.returns-in_err-found-clause-lacks
 returns-in_err-found-clause-lacks g c =
-    on_err_always c.from_residual-in_err-found.result (of_instance (g.S.Successors.at c.args.source.now c.loop-found.spot) (c.loop-found.invariant.passed c.loop-found-test.true) c.in_err-found.ensures.long)
+    on_err_always c.from_residual-in_err-found.result (record { row = g.S.Successors.at c.args.source.now c.loop-found.spot; passed = c.loop-found.invariant.passed c.loop-found-test.true; long = c.in_err-found.ensures.long })
