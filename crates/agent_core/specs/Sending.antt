@@ -28,7 +28,8 @@ name_there numbers sent = take (sent.end - sent.start) (drop sent.start numbers)
 abbrev pub StandsWithin : ℕ → SentName → Type 0
 StandsWithin count sent = (sent.start ≤ sent.end) × (sent.end ≤ count)
 
--- bindings that fit into the space, the numbers of their names, and where each name stands among these
+-- Bindings that fit into the space and can be encoded, the numbers of their names, and where the name of
+-- each stands among these. There are no more numbers than octets: so there is memory for all of them.
 pub record IsSending (sending : Sending) (numbers : List ℕ) (names : List SentName) : Type 0 where
   pub names_are : map (name_there numbers) names ≡ names_of sending.bindings
   pub ends_are : map (λ sent. sent.is_end) names ≡ map (λ b. is_end b.value) sending.bindings

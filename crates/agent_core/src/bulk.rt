@@ -23,7 +23,8 @@ use std::alloc::{AllocError, Global};
 use std::sync::ledger::Ledger;
 use steps::Steps;
 
-// Where the successors of a GetBulk are searched, and what gives memory for their names.
+// Where the successors of a GetBulk are searched, and what gives memory for the names of which the view
+// is asked.
 struct Lookup<'a, S> {
     alloc: Global,
     source: &'a S,
@@ -443,8 +444,8 @@ fn binding_number(once: usize, columns: usize, before: usize) -> usize
 ///
 /// # Errors
 /// `Shortage::Name` with the number of the binding of which a member of the list is asked that is to be
-/// sent next, and for which a name above `INLINE_NUMBERS`, 24, numbers was made; `Shortage::Other` ahead
-/// of any lookup, where there is no memory for the names of the list.
+/// sent next, and for which a name above `INLINE_NUMBERS`, 24, numbers was made: that of an instance that
+/// the walk passes or ends at. `Shortage::Other` ahead of any lookup, where there is no memory for the list.
 pub fn get_bulk<S: Successors<L>, L: Ledger>(
     alloc: Global,
     source: &S,

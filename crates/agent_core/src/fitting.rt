@@ -32,7 +32,7 @@ const LEAST_BINDING: usize = 6;
 #[derive(Drop)]
 pub struct FittingBindings {
     bindings: EncodedBindings,
-    // The numbers of their names, one name behind the other, and where each name stands there.
+    // The numbers of their names, one name behind the other, and where the name of each binding stands there.
     numbers: Vec<u32>,
     names: Vec<SentName>,
     // Where walks stand at the names of the last of them, and for how many that is kept.
@@ -103,8 +103,8 @@ impl FittingBindings {
     }
 
     /// Adds the binding of a name and a value where it fits (RFC 3416, 4.2.3), and says whether it
-    /// did. The name is given as a front and what stands behind it. With it is kept where a walk stands at
-    /// the name. It takes no memory. The caller ensures that the name has at most `MAX_NUMBERS` numbers, and
+    /// did. The name is a prefix and the index behind it. With it is kept where a walk stands at the name. It
+    /// takes no memory. The caller ensures that the name has at most `MAX_NUMBERS` numbers, and
     /// that the binding has an encoding.
     pub fn offer(&mut self, prefix: &[u32], index: &[u32], value: &Value, stand: Stand) -> bool
         requires most { length (prefix.now ++ index.now) ≤ MAX_NUMBERS }
@@ -122,10 +122,8 @@ impl FittingBindings {
     {
         let start = self.numbers.len();
         push_name(&mut self.numbers, prefix, index);
-        if !self
-            .bindings
-            .push(&self.numbers[start..], value, self.space)
-        {
+        let name = &self.numbers[start..];
+        if !self.bindings.push(name, value, self.space) {
             self.numbers.truncate(start);
             return false;
         }

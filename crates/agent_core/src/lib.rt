@@ -11,14 +11,15 @@
 //!
 //! [`get`] answers from any [`Source`], and [`get_next`] and [`get_bulk`] from any [`Successors`],
 //! each of which is a [`View`] too: they can ask it for nothing but where the next instance stands,
-//! for its name and its value, and whether the view shows a name; each next instance is a step. The
-//! value of an instance is made where it is sent; its name where GetNext sends it, where the view is
-//! asked, and to go on behind a hidden one. A walk stands at a name ([`Stand`]):
-//! at the place of the name among the objects, and knows of those from there on how far the view
-//! shows them whole. Each column of a GetBulk walks by itself. A GetBulk lends its walks one spot, in
-//! which they write where an instance stands. Each binding is encoded at once, behind those that are to be
-//! sent. The numbers of its name stand behind those of the other names, and take no memory of their own;
-//! from them the next repetition goes on. Kept is also whether it is endOfMibView.
+//! for its name, the front of its name and its value, and whether the view shows a name; each next
+//! instance is a step. The value of an instance is made where it is sent. Its name is made where GetNext
+//! sends it, where Get compares it with an object, where the view is asked, and to go on behind a hidden
+//! instance. A walk stands at a name ([`Stand`]): at the place of the name among the objects, and knows of
+//! those from there on how far the view shows them whole. Each column of a GetBulk walks by itself. A
+//! GetBulk lends its walks one spot, in which they write where an instance stands. Each binding is encoded
+//! at once, behind those that are to be sent. The numbers of its name stand behind those of the names before
+//! it, and endOfMibView under numbers that are there; from them the next repetition goes on. Whether a
+//! binding is endOfMibView is kept too.
 //! A [`Shortage`] says for what there was no memory: for a name above 24 numbers that a binding needs, which
 //! is answered genErr with the binding's number (tooBig where that is too long), or for anything else.
 //!
