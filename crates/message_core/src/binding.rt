@@ -66,8 +66,7 @@ impl Model for Bindings {
     ghost view = { λ b. b.items.items };
 }
 
-// Takes memory for another binding where all that there is holds one. The first takes memory for itself
-// alone.
+// Takes memory for another binding, if none is left. The first takes memory for itself alone.
 fn make_space(items: &mut Vec<Binding>) -> Result<(), AllocError>
     ensures same { items.new.items ≡ items.old.items }
     ensures space { OnOk result (length items.new.items < vec_capacity items.new) }
@@ -106,7 +105,7 @@ impl Bindings {
         items
     }
 
-    /// Takes memory for so many bindings more. Without it nothing changes.
+    /// Takes memory for so many bindings more. The list stays as it is.
     pub fn reserve(&mut self, more: usize) -> Result<(), AllocError>
         ensures { self.new ≡ self.old }
     {
