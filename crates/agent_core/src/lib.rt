@@ -18,8 +18,8 @@
 //! those from there on how far the view shows them whole. Each column of a GetBulk walks by itself. A
 //! GetBulk lends its walks one spot, in which they write where an instance stands. Each binding is encoded
 //! at once, behind those that are to be sent. The numbers of its name stand behind those of the names before
-//! it, and endOfMibView under numbers that are there; from them the next repetition goes on. Whether a
-//! binding is endOfMibView is kept too.
+//! it, from which the next repetition goes on; an endOfMibView that follows another stands under that one's
+//! numbers. Whether a binding is endOfMibView is kept too.
 //! A [`Shortage`] says for what there was no memory: for a name above 24 numbers that a binding needs, which
 //! is answered genErr with the binding's number (tooBig where that is too long), or for anything else.
 //!
