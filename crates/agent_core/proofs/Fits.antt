@@ -3,6 +3,8 @@ use Rattle.std.proofs.Common.{◌≡◌, ℕ, zero, suc, ◌+◌, ◌-◌, ◌<�
 use Rattle.std.specs.Prelude.{Result, Ok, Err, OnOk}
 use Rattle.std.specs.List.{AllByRecursion}
 use Rattle.std.proofs.lemmas.List.{take_more, map-append, length-map, length-take, take-append-drop}
+use Rattle.std.proofs.lemmas.List.{append-nil}
+use Rattle.std.proofs.lemmas.List.Concat.{flat_map-cons}
 use Rattle.std.proofs.lemmas.Grind.{flat_map-append}
 use Rattle.std.proofs.Math.Seq.{drop-append_seam}
 use Rattle.oid_core.specs.Name.{HasRoot}
@@ -16,6 +18,9 @@ use Rattle.agent_core.specs.Fitting.{total, fit_into, IsFilled}
 
 pub total-append : (xs ys : List Binding) → total (xs ++ ys) ≡ total xs + total ys
 total-append xs ys = ap length (flat_map-append canon_binding xs ys) ∙ length-append _ _
+
+pub total_one : (b : Binding) → total (b ∷ []) ≡ length (canon_binding b)
+total_one b = ap length (flat_map-cons canon_binding b [] ∙ append-nil (canon_binding b))
 
 -- each of a list
 pub all_at : {X : Type 0} (P : X → Type 0) (xs : List X) (i : ℕ) (d : X) → AllByRecursion P xs → i < length xs → P (get_or xs i d)

@@ -1,10 +1,9 @@
 -- The laws of replies.
-use Rattle.std.proofs.Common.{◌≡◌, ◌≢◌, ℕ, pos, suc, ◌+◌, ◌*◌, ◌/◌, ◌<◌, ◌≤◌, ◌∙◌, ap, sym, refl, Bool, List, [], ◌∷◌, ◌++◌, length, append-nil, arith, All, Some}
+use Rattle.std.proofs.Common.{◌≡◌, ◌≢◌, ℕ, pos, suc, ◌+◌, ◌*◌, ◌/◌, ◌<◌, ◌≤◌, ◌∙◌, ap, sym, refl, Bool, List, [], ◌∷◌, ◌++◌, length, arith, All, Some}
 use Rattle.std.proofs.Math.Nat.{mul-le-mul_right}
-use Rattle.std.proofs.lemmas.List.Concat.{flat_map-cons}
 use Rattle.std.proofs.lemmas.List.Elements.{All-head, All-tail}
 use Rattle.oid_core.specs.Order.{name_lt}
-use Rattle.message_core.specs.Canon.{answer_to, canon_binding}
+use Rattle.message_core.specs.Canon.{answer_to}
 use Rattle.message_core.specs.declared.limits.TheConstants.{MAX_COMMUNITY, MAX_REPLY}
 use Rattle.message_core.specs.declared.binding.Binding.{Binding}
 use Rattle.message_core.specs.declared.request.Kind.{Kind}
@@ -26,7 +25,7 @@ use Rattle.agent_core.specs.Replies.{reply_within_limit, kind_reply, walk, last_
 use Rattle.agent_core.specs.Answers.{Shown, AgreesOnAsked, outcome_of, outcome_by, reply_in, reply_of}
 use Rattle.message_core.proofs.Rising.{find_is, after-first}
 use Rattle.agent_core.proofs.Below.{visible-rising}
-use Rattle.agent_core.proofs.Fits.{total-append}
+use Rattle.agent_core.proofs.Fits.{total-append, total_one}
 use Rattle.agent_core.proofs.Longest.{longest_law}
 
 -- a walk
@@ -83,9 +82,8 @@ pub total_some : (bs : List Binding) → 6 * length bs ≤ total bs
 total_some [] = omega arith
 total_some (b ∷ bs) =
     let more : 6 * length bs ≤ total bs = total_some bs in
-    let one : total (b ∷ []) ≡ length (canon_binding b) = ap length (flat_map-cons canon_binding b [] ∙ append-nil (canon_binding b)) in
     let sum : total (b ∷ bs) ≡ total (b ∷ []) + total bs = total-append (b ∷ []) bs in
-    omega (arith, more, binding_some b, one, sum)
+    omega (arith, more, binding_some b, total_one b, sum)
 
 pub few_law : (request : Request) (all : List Binding) → length request.community ≤ MAX_COMMUNITY → least_binding * length (fitting_front request all) ≤ MAX_REPLY
 few_law request all community =

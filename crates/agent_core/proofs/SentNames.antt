@@ -1,13 +1,11 @@
 -- Where the names of the bindings that are to be sent stand.
 use Rattle.std.proofs.Common.{◌≡◌, ◌∙◌, ℕ, zero, suc, Bool, ◌+◌, ◌-◌, ◌/◌, ◌<◌, ◌≤◌, List, [], ◌∷◌, ◌++◌, length, map, take, drop, get_or, refl, sym, ap, ap₂, subst, arith}
-use Rattle.std.proofs.lemmas.List.{append-nil, drop-map, length-map, length-drop, length-append, drop-append-le, take-append-le, map-append}
-use Rattle.std.proofs.lemmas.List.Concat.{flat_map-cons}
+use Rattle.std.proofs.lemmas.List.{drop-map, length-map, length-drop, length-append, drop-append-le, take-append-le, map-append}
 use Rattle.std.proofs.Math.Seq.{take-length, drop-append_seam}
 use Rattle.std.proofs.lemmas.List.Folds.{list_all-map}
 use Rattle.std.specs.List.{list_all, AllByRecursion}
 use Rattle.oid_core.specs.Name.{HasRoot}
 use Rattle.oid_core.specs.declared.limits.TheConstants.{MAX_NUMBERS}
-use Rattle.message_core.specs.Canon.{canon_binding}
 use Rattle.message_core.specs.Encodable.{AreEncodable, IsEncodableBinding}
 use Rattle.message_core.specs.Instances.{names_of}
 use Rattle.message_core.specs.declared.binding.Binding.{Binding}
@@ -17,7 +15,7 @@ use Rattle.agent_core.specs.declared.source.Stand.{Stand}
 use Rattle.agent_core.specs.Bulk.{is_end, all_end}
 use Rattle.agent_core.specs.Fitting.{total, least_binding}
 use Rattle.agent_core.specs.Sending.{Sending, IsSending, name_there, StandsWithin, kept}
-use Rattle.agent_core.proofs.Fits.{total-append, all_at, all_append}
+use Rattle.agent_core.proofs.Fits.{total-append, total_one, all_at, all_append}
 use Rattle.agent_core.proofs.LawProofs.{reserved}
 
 -- a name stands where it stood when more numbers stand behind
@@ -27,24 +25,27 @@ there_still numbers more s h =
     let few : s.end - s.start ≤ length (drop s.start numbers) = omega (arith, h.0, h.1, length-drop s.start numbers) in
     ap (take (s.end - s.start)) (drop-append-le s.start numbers more start) ∙ take-append-le (s.end - s.start) (drop s.start numbers) more few
 
-pub all_still : (numbers more : List ℕ) (names : List SentName) → AllByRecursion (StandsWithin (length numbers)) names →
+all_still : (numbers more : List ℕ) (names : List SentName) → AllByRecursion (StandsWithin (length numbers)) names →
     map (name_there (numbers ++ more)) names ≡ map (name_there numbers) names
 all_still numbers more [] h = refl
 all_still numbers more (s ∷ names) h = ap₂ (λ (n : List ℕ) (ns : List (List ℕ)). n ∷ ns) (there_still numbers more s h.0) (all_still numbers more names h.1)
 
--- the name that stands last
-pub stands_last : (numbers more : List ℕ) (s : SentName) → s.start ≡ length numbers → s.end ≡ length (numbers ++ more) → name_there (numbers ++ more) s ≡ more
-stands_last numbers more s start end =
-    let count : s.end - s.start ≡ length more = omega (arith, start, end, length-append numbers more) in
-    ap₂ (λ (n m : ℕ). take n (drop m (numbers ++ more))) count start
+-- the numbers that were put behind others
+pub last_numbers : (numbers more slice : List ℕ) (start : ℕ) → slice ≡ numbers ++ more → start ≡ length numbers → take (length slice - start) (drop start slice) ≡ more
+last_numbers numbers more slice start same at =
+    let count : length slice - start ≡ length more = omega (arith, at, ap length same, length-append numbers more) in
+    ap₂ (λ (n : ℕ) (ns : List ℕ). take n (drop start ns)) count same
+    ∙ ap (λ (m : ℕ). take (length more) (drop m (numbers ++ more))) at
     ∙ ap (take (length more)) (drop-append_seam numbers more) ∙ take-length more
+
+-- the name that stands last
+stands_last : (numbers more : List ℕ) (s : SentName) → s.start ≡ length numbers → s.end ≡ length (numbers ++ more) → name_there (numbers ++ more) s ≡ more
+stands_last numbers more s start end =
+    ap (λ (n : ℕ). take (n - s.start) (drop s.start (numbers ++ more))) end ∙ last_numbers numbers more (numbers ++ more) s.start refl start
 
 within_more : (m n : ℕ) (names : List SentName) → m ≤ n → AllByRecursion (StandsWithin m) names → AllByRecursion (StandsWithin n) names
 within_more m n [] more h = tt
 within_more m n (x ∷ names) more h = ((h.0.0, omega (arith, h.0.1, more)), within_more m n names more h.1)
-
-total_one : (b : Binding) → total (b ∷ []) ≡ length (canon_binding b)
-total_one b = ap length (flat_map-cons canon_binding b [] ∙ append-nil (canon_binding b))
 
 total_more : (bs : List Binding) (b : Binding) → IsEncodableBinding b → total bs + length b.name ≤ total (bs ++ b ∷ [])
 total_more bs b h = omega (arith, total-append bs (b ∷ []), total_one b, binding_more b h.name)
@@ -62,7 +63,7 @@ pub record IsMore (old : Sending) (numbers new : List ℕ) (names : List SentNam
   pub short : length b.name ≤ MAX_NUMBERS
   pub kept_within : length stands ≤ old.most_stands
 
-pub sending_more : (old : Sending) (numbers new : List ℕ) (names : List SentName) (b : Binding) (s : SentName) (stands : List Stand) →
+sending_more : (old : Sending) (numbers new : List ℕ) (names : List SentName) (b : Binding) (s : SentName) (stands : List Stand) →
     IsSending old numbers names → IsMore old numbers new names b s stands →
     IsSending (record { space = old.space; bindings = old.bindings ++ b ∷ []; stands = stands; most_stands = old.most_stands }) new (names ++ s ∷ [])
 sending_more old numbers new names b s stands h m = record {
@@ -111,14 +112,6 @@ pub short_at : (bs : List Binding) (i : ℕ) → AllByRecursion (λ (b : Binding
 short_at [] i e h = absurd (omega (arith, h))
 short_at (b ∷ bs) zero e h = e.0
 short_at (b ∷ bs) (suc i) e h = short_at bs i e.1 (omega (arith, h))
-
--- the numbers that were put behind others
-pub last_numbers : (numbers more slice : List ℕ) (start : ℕ) → slice ≡ numbers ++ more → start ≡ length numbers → take (length slice - start) (drop start slice) ≡ more
-last_numbers numbers more slice start same at =
-    let count : length slice - start ≡ length more = omega (arith, at, ap length same, length-append numbers more) in
-    ap₂ (λ (n : ℕ) (ns : List ℕ). take n (drop start ns)) count same
-    ∙ ap (λ (m : ℕ). take (length more) (drop m (numbers ++ more))) at
-    ∙ ap (take (length more)) (drop-append_seam numbers more) ∙ take-length more
 
 pub kept_few : (most : ℕ) (stands new : List Stand) (stand : Stand) → 1 ≤ most → length stands ≤ most → new ≡ kept most stands stand → length new ≤ most
 kept_few most stands new stand some few is =
