@@ -7,7 +7,7 @@ pub mod Rest
 pub mod Lacks
 pub mod LookupLemmas
 pub mod Below
-pub mod SentNames
+pub mod SentBindings
 pub mod Sizes
 pub mod Encodings
 pub mod Fits

@@ -1,5 +1,5 @@
 -- Bindings that are to be sent, and the octets that there is space for.
-use Rattle.std.specs.Prelude.{◌≡◌, ℕ, suc, min, max, ◌+◌, ◌-◌, ◌<◌, ◌≤◌, List, [], ◌∷◌, ◌++◌, length, map, take, drop, get_or}
+use Rattle.std.specs.Prelude.{◌≡◌, ℕ, ◌-◌, ◌<◌, ◌≤◌, List, [], length, map, take, drop, get_or}
 use Rattle.std.specs.List.{AllByRecursion}
 use Rattle.oid_core.specs.declared.limits.TheConstants.{MAX_NUMBERS}
 use Rattle.message_core.specs.Instances.{names_of}
@@ -7,30 +7,28 @@ use Rattle.message_core.specs.Encodable.{AreEncodable}
 use Rattle.message_core.specs.declared.binding.Binding.{Binding}
 use Rattle.message_core.specs.declared.limits.TheConstants.{MAX_REPLY}
 use Rattle.agent_core.specs.declared.source.Stand.{Stand}
-use Rattle.agent_core.specs.declared.sent_name.SentName.{SentName}
+use Rattle.agent_core.specs.declared.sent_binding.SentBinding.{SentBinding}
 use Rattle.agent_core.specs.Bulk.{is_end}
-use Rattle.agent_core.specs.declared.fitting.TheConstants.{MAX_STANDS}
 use Rattle.agent_core.specs.Fitting.{total}
 
 pub record Sending : Type 0 where
   -- the octets that the bindings may have
   pub space : ℕ
   pub bindings : List Binding
-  -- where walks stand at the names of the last of them, and for how many that is kept
+  -- where walks stand at their names
   pub stands : List Stand
-  pub most_stands : ℕ
 
 -- the name that stands there among the numbers of all names
-abbrev pub name_there : List ℕ → SentName → List ℕ
+abbrev pub name_there : List ℕ → SentBinding → List ℕ
 name_there numbers sent = take (sent.end - sent.start) (drop sent.start numbers)
 
 -- a name stands among so many numbers
-abbrev pub StandsWithin : ℕ → SentName → Type 0
+abbrev pub StandsWithin : ℕ → SentBinding → Type 0
 StandsWithin count sent = (sent.start ≤ sent.end) × (sent.end ≤ count)
 
 -- Bindings that fit into the space and can be encoded, the numbers of their names, and where the name of
 -- each stands among these. There are no more numbers than octets: so there is memory for all of them.
-pub record IsSending (sending : Sending) (numbers : List ℕ) (names : List SentName) : Type 0 where
+pub record IsSending (sending : Sending) (numbers : List ℕ) (names : List SentBinding) : Type 0 where
   pub names_are : map (name_there numbers) names ≡ names_of sending.bindings
   pub ends_are : map (λ sent. sent.is_end) names ≡ map (λ b. is_end b.value) sending.bindings
   pub each : AllByRecursion (StandsWithin (length numbers)) names
@@ -39,24 +37,10 @@ pub record IsSending (sending : Sending) (numbers : List ℕ) (names : List Sent
   pub most : sending.space ≤ MAX_REPLY
   pub encodable : AreEncodable sending.bindings
   pub short : AllByRecursion (λ b. length b.name ≤ MAX_NUMBERS) sending.bindings
-  pub kept_some : 1 ≤ sending.most_stands
-  pub kept_most : sending.most_stands ≤ MAX_STANDS
-  pub kept_within : length sending.stands ≤ sending.most_stands
 
--- The last places where walks stand, and one more: the first one makes way where there are as many as
--- are kept.
-abbrev pub kept : ℕ → List Stand → Stand → List Stand
-kept most stands stand = drop (length stands + 1 - most) stands ++ stand ∷ []
-
--- For how many bindings that is: for those of one repetition, for one at least, and for no more than
--- there are places.
-abbrev pub stands_of : ℕ → ℕ
-stands_of columns = max 1 (min columns MAX_STANDS)
-
--- The walks that are kept stand at the names of the last bindings.
-pub record AreStands (stands : Stand → List ℕ → Type 0) (kept : List Stand)
+-- Walks stand at the names of the bindings, one at each.
+pub record AreStands (stands : Stand → List ℕ → Type 0) (places : List Stand)
     (names : List (List ℕ)) : Type 0 where
-  pub within : length kept ≤ length names
-  -- the k-th from the end
-  pub each : (k : ℕ) (stand : Stand) → k < length kept →
-      stands (get_or kept (length kept - suc k) stand) (get_or names (length names - suc k) [])
+  pub within : length places ≡ length names
+  pub each : (k : ℕ) (stand : Stand) → k < length places →
+      stands (get_or places k stand) (get_or names k [])

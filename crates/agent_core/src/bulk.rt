@@ -9,7 +9,7 @@ ghost use Rattle.agent_core.specs.Reading.{visible, next_answer, next_answers};
 ghost use Rattle.agent_core.specs.Lookups.{most_lookups, PassesLong};
 ghost use Rattle.agent_core.specs.Lacking.{IsLacking, LacksBulkName, IfName, bulk_names, binding_number};
 ghost use Rattle.agent_core.specs.Bulk.{repetitions, further, bulk_list, count_of, asked_list};
-ghost use Rattle.agent_core.specs.Sending.{kept, AreStands};
+ghost use Rattle.agent_core.specs.Sending.{AreStands};
 ghost use Rattle.agent_core.specs.Fitting.{fitting_front, fit_into, most_successors, IsFilled};
 ghost use Rattle.message_core.specs.declared.binding.Binding.{Binding};
 
@@ -43,8 +43,8 @@ impl<S> Clone for Lookup<'_, S> {
 
 impl<S> Copy for Lookup<'_, S> {}
 
-// Where a walk stands at a name, found beside the stand of the last binding that was sent, if that is
-// kept.
+// Where a walk stands at a name, found beside the stand of the last binding that is to be sent, if there
+// is one.
 fn stand_at<S: Successors<L>, L: Ledger>(
     source: &S,
     fitting: &FittingBindings,
@@ -53,32 +53,10 @@ fn stand_at<S: Successors<L>, L: Ledger>(
     requires { AreStands (S.stands source.now) fitting.now.stands (names_of fitting.now.bindings) }
     ensures { S.stands source.now result name.now }
 {
-    match fitting.stand(1) {
-        Some(other) => source.start_beside(name, other),
-        None => source.start(name),
+    if fitting.len() == 0 {
+        return source.start(name);
     }
-}
-
-// Where the walk stands at the name of the binding so many places back: as it was kept, if it was.
-fn stand_back<S: Successors<L>, L: Ledger>(
-    source: &S,
-    fitting: &FittingBindings,
-    back: usize,
-    name: &[u32],
-) -> Stand
-    requires stands { AreStands (S.stands source.now) fitting.now.stands
-        (names_of fitting.now.bindings) }
-    requires some { 1 ≤ back }
-    requires name { name.now ≡ get_or (names_of fitting.now.bindings)
-        (length fitting.now.bindings - back) [] }
-    ensures stands { S.stands source.now result name.now }
-    ensures kept { back ≤ length fitting.now.stands →
-        result ≡ get_or fitting.now.stands (length fitting.now.stands - back) result }
-{
-    match fitting.stand(back) {
-        Some(stand) => *stand,
-        None => source.start(name),
-    }
+    source.start_beside(name, fitting.stand(1))
 }
 
 // Sends the binding of the instance at a spot where it fits, and says whether it did.
@@ -95,7 +73,7 @@ fn offer_instance<S: Successors<L>, L: Ledger>(
     ensures taken { IsTrue result →
         fitting.new.bindings ≡ fitting.old.bindings ++ S.at lookup.entry.source.now spot.now ∷ [] }
     ensures stand { IsTrue result →
-        fitting.new.stands ≡ kept fitting.old.most_stands fitting.old.stands stand }
+        fitting.new.stands ≡ fitting.old.stands ++ stand ∷ [] }
     ensures full { result ≡ false → fitting.new ≡ fitting.old }
     ensures fits { result ≡ fit_into fitting.old.space
         (fitting.old.bindings ++ S.at lookup.entry.source.now spot.now ∷ []) }
@@ -224,7 +202,7 @@ fn send_successor<S: Successors<L>, L: Ledger>(
 {
     let Lookup { alloc, source } = lookup;
     let before = fitting.name(back);
-    let mut stand = stand_back(source, fitting, back, before);
+    let mut stand = *fitting.stand(back);
     if find_next(alloc, source, before, true, &mut stand, spot, steps)? {
         return Ok(offer_instance(lookup, spot, stand, fitting));
     }
@@ -470,7 +448,7 @@ pub fn get_bulk<S: Successors<L>, L: Ledger>(
     let once = non_repeaters(request);
     let most = max_repetitions(request);
     let columns = asked.len() - once;
-    let mut fitting = FittingBindings::new(alloc, bindings_space(request), columns)?;
+    let mut fitting = FittingBindings::new(alloc, bindings_space(request))?;
     let mut spot = Spot::new();
     let lookup = Lookup { alloc, source };
     let filled = send_list(lookup, once, most, asked, &mut fitting, &mut spot, steps);

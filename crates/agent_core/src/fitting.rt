@@ -1,7 +1,6 @@
 //! The bindings of a GetBulk that fit so far (RFC 3416, 4.2.3).
-ghost use Rattle.std.specs.Prelude.{◌≡◌, ◌≤◌, ◌+◌, ◌-◌, ◌++◌, vec_capacity, [], ◌∷◌, IfOk, IsTrue, false, length, drop, get_or, nat_le, slice_get, if◌then◌else◌, None};
+ghost use Rattle.std.specs.Prelude.{◌≡◌, ◌≤◌, ◌+◌, ◌-◌, ◌++◌, vec_capacity, [], ◌∷◌, IfOk, IsTrue, false, length, drop, get_or};
 ghost use Rattle.std.specs.List.{list_all};
-ghost use Rattle.std.specs.Option.{option_copied};
 ghost use Rattle.oid_core.specs.Name.{HasRoot};
 ghost use Rattle.oid_core.specs.declared.limits.TheConstants.{MAX_NUMBERS};
 ghost use Rattle.message_core.specs.Instances.{names_of};
@@ -10,19 +9,13 @@ ghost use Rattle.message_core.specs.declared.limits.TheConstants.{MAX_REPLY};
 ghost use Rattle.agent_core.specs.Reading.{end_under};
 ghost use Rattle.agent_core.specs.Bulk.{all_end, is_end};
 ghost use Rattle.agent_core.specs.Fitting.{total, fit_into};
-ghost use Rattle.agent_core.specs.Sending.{kept, stands_of};
 
-use crate::sent_name::SentName;
+use crate::sent_binding::SentBinding;
 use crate::source::Stand;
-use arrayvec::ArrayVec;
 use message_core::{EncodedBindings, Value};
 use oid_core::MAX_NUMBERS;
 use std::alloc::{AllocError, Global};
 use std::marker::Model;
-
-/// The most last bindings for which it is kept where a walk stands. In a repetition of more columns
-/// each binding begins with a search.
-pub const MAX_STANDS: usize = 16;
 
 // How many octets a binding has at least: its head, and the heads of its name and its value.
 const LEAST_BINDING: usize = 6;
@@ -32,17 +25,14 @@ const LEAST_BINDING: usize = 6;
 #[derive(Drop)]
 pub struct FittingBindings {
     bindings: EncodedBindings,
-    // The numbers of their names, one name behind the other, and where the name of each binding stands there.
+    // The numbers of their names, one name behind the other, and of each binding where its name stands there.
     numbers: Vec<u32>,
-    names: Vec<SentName>,
-    // Where walks stand at the names of the last of them, and for how many that is kept.
-    stands: ArrayVec<Stand, MAX_STANDS>,
-    most_stands: usize,
+    sent: Vec<SentBinding>,
     space: usize,
 }
 
 impl Model for FittingBindings {
-    ghost use Rattle.std.specs.Prelude.{◌<◌, ◌≤◌, ◌+◌, ◌/◌, vec_capacity};
+    ghost use Rattle.std.specs.Prelude.{◌<◌, ◌≤◌, ◌+◌, ◌/◌, map, vec_capacity};
     ghost use Rattle.oid_core.specs.declared.limits.TheConstants.{MAX_NUMBERS};
     ghost use Rattle.agent_core.specs.Fitting.{least_binding};
     ghost use Rattle.agent_core.specs.Sending.{Sending, IsSending};
@@ -52,17 +42,15 @@ impl Model for FittingBindings {
     ghost view = { λ s. record {
       space = s.space;
       bindings = s.bindings;
-      stands = s.stands.items;
-      most_stands = s.most_stands;
+      stands = map (λ sent. sent.stand) s.sent.items;
     } };
 
     ghost invariant = { λ s.
         IsSending (record {
           space = s.space;
           bindings = s.bindings;
-          stands = s.stands.items;
-          most_stands = s.most_stands;
-        }) s.numbers.items s.names.items × (s.space / least_binding < vec_capacity s.names)
+          stands = map (λ sent. sent.stand) s.sent.items;
+        }) s.numbers.items s.sent.items × (s.space / least_binding < vec_capacity s.sent)
         × (s.space + MAX_NUMBERS ≤ vec_capacity s.numbers) };
 }
 
@@ -77,27 +65,23 @@ fn push_name(numbers: &mut Vec<u32>, prefix: &[u32], index: &[u32])
 }
 
 impl FittingBindings {
-    /// No bindings, which may have `space` octets, at most `MAX_REPLY`. Where walks stand is kept for the
-    /// last `columns` bindings, for one at least and for `MAX_STANDS` at most. Memory for as many bindings
-    /// as can fit, and for one more, is reserved: so adding one takes none.
+    /// No bindings, which may have `space` octets, at most `MAX_REPLY`. Memory for as many bindings as can
+    /// fit, and for one more, is reserved: so adding one takes none.
     ///
     /// # Errors
     /// `AllocError` where there is no such memory.
-    pub fn new(alloc: Global, space: usize, columns: usize) -> Result<FittingBindings, AllocError>
+    pub fn new(alloc: Global, space: usize) -> Result<FittingBindings, AllocError>
         requires { space ≤ MAX_REPLY }
         ensures { IfOk result (λ fitting. fitting ≡ record {
           space = space;
           bindings = [];
           stands = [];
-          most_stands = stands_of columns;
         }) }
     {
         Ok(FittingBindings {
             bindings: EncodedBindings::new(alloc)?,
             numbers: Vec::with_capacity(alloc, space + MAX_NUMBERS)?,
-            names: Vec::with_capacity(alloc, space / LEAST_BINDING + 1)?,
-            stands: ArrayVec::new(),
-            most_stands: columns.min(MAX_STANDS).max(1),
+            sent: Vec::with_capacity(alloc, space / LEAST_BINDING + 1)?,
             space,
         })
     }
@@ -113,12 +97,11 @@ impl FittingBindings {
         ensures taken { IsTrue result → self.new.bindings
             ≡ self.old.bindings ++ record { name = prefix.now ++ index.now; value = value.now } ∷ [] }
         ensures stand { IsTrue result →
-            self.new.stands ≡ kept self.old.most_stands self.old.stands stand }
+            self.new.stands ≡ self.old.stands ++ stand ∷ [] }
         ensures full { result ≡ false → self.new ≡ self.old }
         ensures fits { result ≡ fit_into self.old.space (self.old.bindings
             ++ record { name = prefix.now ++ index.now; value = value.now } ∷ []) }
         ensures space { self.new.space ≡ self.old.space }
-        ensures most_stands { self.new.most_stands ≡ self.old.most_stands }
     {
         let start = self.numbers.len();
         push_name(&mut self.numbers, prefix, index);
@@ -127,12 +110,12 @@ impl FittingBindings {
             self.numbers.truncate(start);
             return false;
         }
-        self.names.push_reserved(SentName {
+        self.sent.push_reserved(SentBinding {
             start,
             end: self.numbers.len(),
             is_end: is_end(value),
+            stand,
         });
-        keep(&mut self.stands, self.most_stands, stand);
         true
     }
 
@@ -146,25 +129,24 @@ impl FittingBindings {
             (length self.old.bindings - back) [] in
             IsTrue result → self.new.bindings ≡ self.old.bindings ++ end_under name ∷ [] }
         ensures stand { IsTrue result →
-            self.new.stands ≡ kept self.old.most_stands self.old.stands stand }
+            self.new.stands ≡ self.old.stands ++ stand ∷ [] }
         ensures full { result ≡ false → self.new ≡ self.old }
         ensures fits { let name = get_or (names_of self.old.bindings)
             (length self.old.bindings - back) [] in
             result ≡ fit_into self.old.space (self.old.bindings ++ end_under name ∷ []) }
         ensures space { self.new.space ≡ self.old.space }
-        ensures most_stands { self.new.most_stands ≡ self.old.most_stands }
     {
-        let SentName { start, end, .. } = self.names[self.names.len() - back];
+        let SentBinding { start, end, .. } = self.sent[self.sent.len() - back];
         let name = &self.numbers[start..end];
         if !self.bindings.push(name, &Value::EndOfMibView, self.space) {
             return false;
         }
-        self.names.push_reserved(SentName {
+        self.sent.push_reserved(SentBinding {
             start,
             end,
             is_end: true,
+            stand,
         });
-        keep(&mut self.stands, self.most_stands, stand);
         true
     }
 
@@ -173,7 +155,7 @@ impl FittingBindings {
         ensures value { result ≡ length self.now.bindings }
         ensures most { result ≤ MAX_REPLY }
     {
-        self.names.len()
+        self.sent.len()
     }
 
     /// The name of the binding so many places back, 1 for the last, at most `len`.
@@ -184,7 +166,7 @@ impl FittingBindings {
             (length self.now.bindings - back) [] }
         ensures root { HasRoot result.now }
     {
-        let SentName { start, end, .. } = self.names[self.names.len() - back];
+        let SentBinding { start, end, .. } = self.sent[self.sent.len() - back];
         &self.numbers[start..end]
     }
 
@@ -193,18 +175,16 @@ impl FittingBindings {
         requires { count ≤ length self.now.bindings }
         ensures { result ≡ all_end (drop (length self.now.bindings - count) self.now.bindings) }
     {
-        are_ends(&self.names[self.names.len() - count..])
+        are_ends(&self.sent[self.sent.len() - count..])
     }
 
-    /// Where a walk stands at the name of the binding so many places back, 1 for the last, where that is
-    /// kept.
-    pub fn stand(&self, back: usize) -> Option<&Stand>
-        requires { 1 ≤ back }
-        ensures { option_copied result ≡ (if nat_le back (length self.now.stands)
-            then slice_get self.now.stands (length self.now.stands - back) else None) }
+    /// Where a walk stands at the name of the binding so many places back, 1 for the last, at most `len`.
+    pub fn stand(&self, back: usize) -> &Stand
+        requires some { 1 ≤ back }
+        requires there { back ≤ length self.now.bindings }
+        ensures { result.now ≡ get_or self.now.stands (length self.now.bindings - back) result.now }
     {
-        let all = self.stands.as_slice();
-        all.get(all.len().checked_sub(back)?)
+        &self.sent[self.sent.len() - back].stand
     }
 
     /// The bindings. Takes no memory.
@@ -216,9 +196,7 @@ impl FittingBindings {
         let FittingBindings {
             bindings,
             numbers: _,
-            names: _,
-            stands: _,
-            most_stands: _,
+            sent: _,
             space: _,
         } = self;
         bindings
@@ -233,38 +211,8 @@ fn is_end(value: &Value) -> bool
 }
 
 // Whether each binding of which these are kept is endOfMibView.
-fn are_ends(names: &[SentName]) -> bool
+fn are_ends(names: &[SentBinding]) -> bool
     ensures { result ≡ list_all (λ sent. sent.is_end) names.now }
 {
     names.iter().all(|sent| sent.is_end)
-}
-
-// Keeps one place alone where a walk stands, in place of the one that was kept.
-fn keep_one(stands: &mut ArrayVec<Stand, MAX_STANDS>, stand: Stand)
-    ensures { stands.new.items ≡ stand ∷ [] }
-{
-    if let [only] = stands.as_mut_slice() {
-        *only = stand;
-        return;
-    }
-    stands.clear();
-    stands.push(stand);
-}
-
-// Keeps where a walk stands at the name of the last binding, in place of the first one where there are
-// as many as are kept.
-fn keep(stands: &mut ArrayVec<Stand, MAX_STANDS>, most: usize, stand: Stand)
-    requires some { 1 ≤ most }
-    requires most { most ≤ MAX_STANDS }
-    requires within { length stands.old.items ≤ most }
-    ensures { stands.new.items ≡ kept most stands.old.items stand }
-{
-    if most == 1 {
-        keep_one(stands, stand);
-        return;
-    }
-    if stands.len() >= most {
-        stands.remove(0);
-    }
-    stands.push(stand);
 }

@@ -58,7 +58,7 @@ mod getting;
 pub mod laws;
 mod nexts;
 mod reading;
-mod sent_name;
+mod sent_binding;
 mod sent_reply;
 mod served;
 mod sets;

@@ -11,6 +11,7 @@ use Rattle.message_core.specs.declared.cause.DropCause.{DropCause}
 use Rattle.message_core.specs.declared.cause.DropCause.TheVariants.{Malformed, Memory}
 use Rattle.message_core.specs.declared.binding.Binding.{Binding}
 use Rattle.oid_core.specs.Name.{BeginsLong}
+use Rattle.oid_core.specs.Reading.{name_at}
 use Rattle.message_core.specs.Message.{IsBinding, AreBindings, IsLongValue, HasLongName, HasLongValue, HasLongBinding, HasGrowth, HasGrowingList, HasGrowingBody, IsFirstFault}
 use Rattle.message_core.specs.FirstFault.{any_at, content_at, nametlv_at, binding_at, numbers_at, head_at}
 use Rattle.message_core.proofs.Readers.{bind_ok, test_ok, ok_is, content_fits, any_found, content_reads, nametlv_reads, binding_reads}
@@ -31,6 +32,10 @@ long_name octets content rest e long = record { content = content; rest = rest; 
 
 pub long_value : (octets : List ℕ) (tag : ℕ) (content rest : List ℕ) → any_at octets ≡ Ok (tag, content, rest) → IsLongValue tag content → HasLongValue octets
 long_value octets tag content rest e long = record { tag = tag; content = content; rest = rest; head = any_found octets (tag, content, rest) e; long = long }
+
+pub named_by : (octets content rest name : List ℕ) → content_at tags.object_identifier octets ≡ Ok (content, rest) → name_at content ≡ Ok name → nametlv_at octets ≡ Ok (name, rest)
+unfolding nametlv_at
+named_by octets content rest name e n = rw (e, n) refl
 
 pub long_by_name : (octets content rest : List ℕ) → content_at tags.sequence octets ≡ Ok (content, rest) → HasLongName content → HasLongBinding octets
 long_by_name octets content rest e long = record { content = content; rest = rest; head = content_found tags.sequence octets (content, rest) e; long = inl long }

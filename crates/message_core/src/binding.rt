@@ -114,6 +114,7 @@ impl Bindings {
 
     /// Adds a binding at the end. Takes memory where none is reserved; without it nothing changes, and the
     /// binding is dropped. Most lists have one binding, so the first takes memory for itself alone.
+    #[inline(always)]
     pub fn push(&mut self, binding: Binding) -> Result<(), AllocError>
         ensures ok { OnOk result (self.new ≡ self.old ++ binding ∷ []) }
         ensures err { OnErr result (self.new ≡ self.old) }

@@ -1,5 +1,5 @@
 //! Bindings that are kept in their shortest encoding.
-ghost use Rattle.std.specs.Prelude.{◌≡◌, ◌≤◌, ◌<◌, ◌^◌, ◌+◌, ◌++◌, [], ◌∷◌, length, take, nat_le, IsTrue, IfOk, false, MatchOption};
+ghost use Rattle.std.specs.Prelude.{◌≡◌, ◌≤◌, ◌<◌, ◌^◌, ◌+◌, ◌-◌, ◌++◌, [], ◌∷◌, length, take, drop, nat_le, IsTrue, IfOk, false, MatchOption};
 ghost use Rattle.message_core.specs.Encodable.{IsEncodableBinding, AreEncodable};
 ghost use Rattle.message_core.specs.Canon.{canon_binding, canon_bindings};
 ghost use Rattle.message_core.specs.declared.limits.TheConstants.{MAX_REPLY};
@@ -45,6 +45,22 @@ impl Model for EncodedBindings {
         AreShortest (take e.len e.octets.value) };
 }
 
+// Copies the octets of a slice from a place on to its front. Most often they do not reach over that place,
+// and are copied at once.
+fn copy_to_front(space: &mut [u8], start: usize)
+    requires { start ≤ length space.old }
+    ensures front { take (length space.old - start) space.new ≡ drop start space.old }
+    ensures same_length { length space.new ≡ length space.old }
+{
+    let len = space.len() - start;
+    if start < len {
+        space.copy_within(start.., 0);
+        return;
+    }
+    let (front, back) = space.split_at_mut(start);
+    front[..len].copy_from_slice(back);
+}
+
 // The length of the shortest encoding of a binding that is written to the front of a slice, where it
 // fits there. Where it does not, the slice may hold anything.
 fn write_front(space: &mut [u8], name: &[u32], value: &Value) -> Option<usize>
@@ -60,7 +76,7 @@ fn write_front(space: &mut [u8], name: &[u32], value: &Value) -> Option<usize>
     }
     let len = out.len();
     let start = space.len() - len;
-    space.copy_within(start.., 0);
+    copy_to_front(space, start);
     Some(len)
 }
 

@@ -44,6 +44,7 @@ enum Listed<'a> {
     Encoded(&'a EncodedBindings),
 }
 
+#[inline(always)]
 #[tactic(auto, unfolding(ber_core::specs::Encoding::canon_tlv))]
 fn put_oid(out: &mut Out<'_>, name: &[u32]) -> Result<(), BerFault>
     requires { HasRoot name.now }
@@ -85,6 +86,7 @@ pub fn put_value(out: &mut Out<'_>, value: &Value) -> Result<(), BerFault>
 /// VarBind) in front of what is written.
 ///
 /// `NoRoom` where it does not fit. The caller ensures that a name can be encoded.
+#[inline(always)]
 #[tactic(auto, unfolding(ber_core::specs::Encoding::canon_tlv, crate::specs::Canon::canon_binding))]
 pub fn put_binding(out: &mut Out<'_>, name: &[u32], value: &Value) -> Result<(), BerFault>
     requires { IsEncodableBinding (record { name = name.now; value = value.now }) }
