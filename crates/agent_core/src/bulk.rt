@@ -72,8 +72,7 @@ fn offer_instance<S: Successors<L>, L: Ledger>(
     requires encodable { IsEncodableBinding (S.at lookup.source.now spot.now) }
     ensures taken { IsTrue result →
         fitting.new.bindings ≡ fitting.old.bindings ++ S.at lookup.entry.source.now spot.now ∷ [] }
-    ensures stand { IsTrue result →
-        fitting.new.stands ≡ fitting.old.stands ++ stand ∷ [] }
+    ensures stand { IsTrue result → fitting.new.stands ≡ fitting.old.stands ++ stand ∷ [] }
     ensures full { result ≡ false → fitting.new ≡ fitting.old }
     ensures fits { result ≡ fit_into fitting.old.space
         (fitting.old.bindings ++ S.at lookup.entry.source.now spot.now ∷ []) }

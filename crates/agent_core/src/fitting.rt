@@ -25,8 +25,9 @@ const LEAST_BINDING: usize = 6;
 #[derive(Drop)]
 pub struct FittingBindings {
     bindings: EncodedBindings,
-    // The numbers of their names, one name behind the other, and of each binding where its name stands there.
+    // The numbers of their names, one name behind the other.
     numbers: Vec<u32>,
+    // What is kept of each.
     sent: Vec<SentBinding>,
     space: usize,
 }
@@ -54,6 +55,17 @@ impl Model for FittingBindings {
         × (s.space + MAX_NUMBERS ≤ vec_capacity s.numbers) };
 }
 
+// Appends numbers, for which there is memory: in turn, since an index has mostly one.
+fn push_numbers(numbers: &mut Vec<u32>, more: &[u32])
+    requires { length numbers.old.items + length more.now ≤ vec_capacity numbers.old }
+    ensures items { numbers.new.items ≡ numbers.old.items ++ more.now }
+    ensures capacity { vec_capacity numbers.new ≡ vec_capacity numbers.old }
+{
+    for number in more {
+        numbers.push_reserved(*number);
+    }
+}
+
 // Appends the numbers of a name, for which there is memory.
 fn push_name(numbers: &mut Vec<u32>, prefix: &[u32], index: &[u32])
     requires { length numbers.old.items + length (prefix.now ++ index.now) ≤ vec_capacity numbers.old }
@@ -61,7 +73,7 @@ fn push_name(numbers: &mut Vec<u32>, prefix: &[u32], index: &[u32])
     ensures capacity { vec_capacity numbers.old ≤ vec_capacity numbers.new }
 {
     numbers.extend_from_slice(prefix).unwrap();
-    numbers.extend_from_slice(index).unwrap();
+    push_numbers(numbers, index);
 }
 
 impl FittingBindings {
@@ -96,8 +108,7 @@ impl FittingBindings {
             (record { name = prefix.now ++ index.now; value = value.now }) }
         ensures taken { IsTrue result → self.new.bindings
             ≡ self.old.bindings ++ record { name = prefix.now ++ index.now; value = value.now } ∷ [] }
-        ensures stand { IsTrue result →
-            self.new.stands ≡ self.old.stands ++ stand ∷ [] }
+        ensures stand { IsTrue result → self.new.stands ≡ self.old.stands ++ stand ∷ [] }
         ensures full { result ≡ false → self.new ≡ self.old }
         ensures fits { result ≡ fit_into self.old.space (self.old.bindings
             ++ record { name = prefix.now ++ index.now; value = value.now } ∷ []) }
@@ -128,8 +139,7 @@ impl FittingBindings {
         ensures taken { let name = get_or (names_of self.old.bindings)
             (length self.old.bindings - back) [] in
             IsTrue result → self.new.bindings ≡ self.old.bindings ++ end_under name ∷ [] }
-        ensures stand { IsTrue result →
-            self.new.stands ≡ self.old.stands ++ stand ∷ [] }
+        ensures stand { IsTrue result → self.new.stands ≡ self.old.stands ++ stand ∷ [] }
         ensures full { result ≡ false → self.new ≡ self.old }
         ensures fits { let name = get_or (names_of self.old.bindings)
             (length self.old.bindings - back) [] in
@@ -211,8 +221,8 @@ fn is_end(value: &Value) -> bool
 }
 
 // Whether each binding of which these are kept is endOfMibView.
-fn are_ends(names: &[SentBinding]) -> bool
-    ensures { result ≡ list_all (λ sent. sent.is_end) names.now }
+fn are_ends(bindings: &[SentBinding]) -> bool
+    ensures { result ≡ list_all (λ sent. sent.is_end) bindings.now }
 {
-    names.iter().all(|sent| sent.is_end)
+    bindings.iter().all(|sent| sent.is_end)
 }

@@ -19,7 +19,7 @@
 //! GetBulk lends its walks one spot, in which they write where an instance stands. Each binding is encoded
 //! at once, behind those that are to be sent. The numbers of its name stand behind those of the names before
 //! it, from which the next repetition goes on; an endOfMibView that follows another stands under that one's
-//! numbers. Whether a binding is endOfMibView is kept too.
+//! numbers. Whether a binding is endOfMibView is kept too, and where a walk stands at its name.
 //! A [`Shortage`] says for what there was no memory: for a name above 24 numbers that a binding needs, which
 //! is answered genErr with the binding's number (tooBig where that is too long), or for anything else.
 //!
