@@ -10,11 +10,8 @@ use Rattle.agent_core.specs.declared.source.Stand.{Stand}
 use Rattle.agent_core.specs.Sending.{Sending, AreStands}
 
 module _ (P : Stand → List ℕ → Type 0) where
-  pub no_stands : AreStands P [] []
-  no_stands = record { within = refl; each = λ k stand l. absurd (omega (arith, l)) }
-
   -- one more at the end
-  pub one_more : (places : List Stand) (stand : Stand) (names : List (List ℕ)) (name : List ℕ) → AreStands P places names → P stand name →
+  one_more : (places : List Stand) (stand : Stand) (names : List (List ℕ)) (name : List ℕ) → AreStands P places names → P stand name →
       AreStands P (places ++ stand ∷ []) (names ++ name ∷ [])
   one_more places stand names name h is = record {
     within = omega (arith, h.within, lens, lenn);
@@ -51,8 +48,3 @@ module _ (P : Stand → List ℕ → Type 0) where
       (one_more old.stands s (names_of old.bindings) b.name h is))
   offered (Ok false) old new b s h is bindings stands full err = subst (λ (x : Sending). AreStands P x.stands (names_of x.bindings)) (sym (full refl)) h
   offered (Err e) old new b s h is bindings stands full err = subst (λ (x : Sending). AreStands P x.stands (names_of x.bindings)) (sym err) h
-
-  -- the one at the name of a binding
-  pub stand_there : (places : List Stand) (names : List (List ℕ)) (k : ℕ) (stand : Stand) → AreStands P places names → k < length names →
-      stand ≡ get_or places k stand → P stand (get_or names k [])
-  stand_there places names k stand h l at = subst (λ s. P s (get_or names k [])) (sym at) (h.each k stand (omega (arith, l, h.within)))

@@ -1,5 +1,5 @@
 //! The bindings of a GetBulk that fit so far (RFC 3416, 4.2.3).
-ghost use Rattle.std.specs.Prelude.{◌≡◌, ◌≤◌, ◌+◌, ◌-◌, ◌++◌, vec_capacity, [], ◌∷◌, IfOk, IsTrue, false, length, drop, get_or};
+ghost use Rattle.std.specs.Prelude.{◌≡◌, ◌≤◌, ◌+◌, ◌-◌, ◌++◌, vec_capacity, [], ◌∷◌, IfOk, IsTrue, false, length, drop, get_or, slice_get, Some};
 ghost use Rattle.std.specs.List.{list_all};
 ghost use Rattle.oid_core.specs.Name.{HasRoot};
 ghost use Rattle.oid_core.specs.declared.limits.TheConstants.{MAX_NUMBERS};
@@ -55,7 +55,7 @@ impl Model for FittingBindings {
         × (s.space + MAX_NUMBERS ≤ vec_capacity s.numbers) };
 }
 
-// Appends numbers, for which there is memory: in turn, since an index has mostly one.
+// Appends numbers, for which there is memory, one by one: most indexes are of one number.
 fn push_numbers(numbers: &mut Vec<u32>, more: &[u32])
     requires { length numbers.old.items + length more.now ≤ vec_capacity numbers.old }
     ensures items { numbers.new.items ≡ numbers.old.items ++ more.now }
@@ -192,7 +192,7 @@ impl FittingBindings {
     pub fn stand(&self, back: usize) -> &Stand
         requires some { 1 ≤ back }
         requires there { back ≤ length self.now.bindings }
-        ensures { result.now ≡ get_or self.now.stands (length self.now.bindings - back) result.now }
+        ensures { slice_get self.now.stands (length self.now.bindings - back) ≡ Some result.now }
     {
         &self.sent[self.sent.len() - back].stand
     }

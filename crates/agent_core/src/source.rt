@@ -41,13 +41,6 @@ impl Stand {
     }
 }
 
-// `ArrayVec` wants a default. It stands at no name.
-impl Default for Stand {
-    fn default() -> Stand {
-        Stand::at(Err(0))
-    }
-}
-
 // The place of the first object that may have an instance behind a name, by the place of the name.
 pub(crate) fn first_place(place: Result<usize, usize>) -> usize
     ensures { result ≡ first_place place }
