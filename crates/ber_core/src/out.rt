@@ -46,6 +46,7 @@ impl<'a> Out<'a> {
     /// Writes octets in front of those written.
     ///
     /// `NoRoom` where they do not fit.
+    #[inline(always)]
     pub fn put_octets(&mut self, octets: &[u8]) -> Result<(), BerFault>
         ensures same_reference { self.new.space.ghost_name ≡ self.old.space.ghost_name }
         ensures puts { Prepends self.old self.new result octets.now }
@@ -64,6 +65,7 @@ impl<'a> Out<'a> {
     /// Writes a tag and the shortest length in front of a content of `len` octets (X.690, 8.1.3).
     ///
     /// `NoRoom` where they do not fit.
+    #[inline(always)]
     #[tactic(auto, using(crate::proofs::Lengths::canon_1, crate::proofs::Lengths::canon_2, crate::proofs::Lengths::canon_3, crate::proofs::Lengths::canon_4))]
     pub fn put_tlv_head(&mut self, tag: Tag, len: usize) -> Result<(), BerFault>
         requires { len < 2 ^ 32 }
@@ -101,6 +103,7 @@ impl<'a> Out<'a> {
     /// Writes a value whose content is at hand, with the shortest length.
     ///
     /// `NoRoom` where it does not fit.
+    #[inline(always)]
     #[tactic(auto, unfolding(crate::specs::Encoding::canon_tlv))]
     pub fn put_tlv(&mut self, tag: Tag, content: &[u8]) -> Result<(), BerFault>
         ensures same_reference { self.new.space.ghost_name ≡ self.old.space.ghost_name }
@@ -119,6 +122,7 @@ impl<'a> Out<'a> {
     /// Writes an INTEGER, or another value that is encoded like one, under its tag (X.690, 8.3).
     ///
     /// `NoRoom` where it does not fit.
+    #[inline(always)]
     #[tactic(auto, using(crate::proofs::Small::small_integer), unfolding(crate::specs::Encoding::canon_integer))]
     pub fn put_i32(&mut self, tag: Tag, value: i32) -> Result<(), BerFault>
         ensures same_reference { self.new.space.ghost_name ≡ self.old.space.ghost_name }

@@ -1,5 +1,5 @@
 -- Where reading takes memory.
-use Rattle.std.proofs.Common.{◌≡◌, ◌≢◌, ℕ, ℤ, eqb, cond, List, [], ◌∷◌, ◌++◌, Result, Ok, Err, refl, sym, ap, subst, ◌∙◌, append_assoc, inl, inr}
+use Rattle.std.proofs.Common.{◌≡◌, ◌≢◌, ℕ, ℤ, eqb, cond, List, [], ◌∷◌, ◌++◌, Result, Ok, Err, IsOk, refl, sym, ap, subst, ◌∙◌, append_assoc, inl, inr}
 use Rattle.std.proofs.lemmas.Bool.{eqb-true}
 use Rattle.std.proofs.lemmas.List.{append-nil}
 use Rattle.ber_core.specs.Encoding.{AreOctets, BeginsTlv}
@@ -88,6 +88,14 @@ pub grows_behind : (content : List ℕ) (bs : List Binding) (rest : List ℕ) (b
 grows_behind content bs rest b after so_far e =
     let next = one_read content bs rest b after so_far e in
     record { front = next.front; rest = after; bindings = bs ++ b ∷ []; read = next.read; parts = next.parts; grows = inl (some_last bs b) }
+
+grows_found : (content : List ℕ) (bs : List Binding) (rest : List ℕ) → IsReadSoFar content bs rest → (read : Result (Binding × List ℕ) DropCause) → binding_at rest ≡ read → IsOk read → HasGrowth content
+grows_found content bs rest so_far (Ok x) e found = grows_behind content bs rest x.0 x.1 so_far e
+grows_found content bs rest so_far (Err f) e found = absurd cc
+
+-- the list's own growth, behind a binding that is read
+pub grows_read : (content : List ℕ) (bs : List Binding) (rest : List ℕ) → IsReadSoFar content bs rest → IsOk (binding_at rest) → HasGrowth content
+grows_read content bs rest so_far found = grows_found content bs rest so_far (binding_at rest) refl found
 
 -- ---- a PDU and a datagram
 

@@ -1,5 +1,5 @@
 //! Writes a reply or a request in its shortest encoding (RFC 3417, section 8; X.690).
-ghost use Rattle.std.specs.Prelude.{◌≡◌, ◌<◌, ◌≤◌, ◌^◌, ◌++◌, drop, length, pos, IfOk, OnErr};
+ghost use Rattle.std.specs.Prelude.{◌≡◌, ◌<◌, ◌≤◌, ◌^◌, ◌++◌, [], drop, length, pos, IfOk, OnErr};
 ghost use Rattle.std.specs.List.{flat_map};
 ghost use Rattle.ber_core.specs.Encoding.{canon_tlv};
 ghost use Rattle.oid_core.specs.Name.{HasRoot, canon_name};
@@ -57,6 +57,15 @@ fn put_oid(out: &mut Out<'_>, name: &[u32]) -> Result<(), BerFault>
     out.put_tlv_head(Tag(tag::OBJECT_IDENTIFIER), len)
 }
 
+// Writes a value without content: NULL, or an exception (RFC 3416, section 3).
+#[tactic(auto, unfolding(ber_core::specs::Encoding::canon_tlv))]
+fn put_empty(out: &mut Out<'_>, tag: u8) -> Result<(), BerFault>
+    ensures same_reference { out.new.space.ghost_name ≡ out.old.space.ghost_name }
+    ensures puts { Prepends out.old out.new result (canon_tlv tag []) }
+{
+    out.put_tlv_head(Tag(tag), 0)
+}
+
 /// Writes the shortest encoding of a value in front of what is written.
 ///
 /// `NoRoom` where it does not fit. The caller ensures that a name can be encoded.
@@ -68,7 +77,7 @@ pub fn put_value(out: &mut Out<'_>, value: &Value) -> Result<(), BerFault>
     match value {
         Value::Integer(number) => out.put_i32(Tag(tag::INTEGER), *number),
         Value::OctetString(octets) => out.put_tlv(Tag(tag::OCTET_STRING), octets.as_slice()),
-        Value::Null => out.put_tlv(Tag(tag::NULL), &[]),
+        Value::Null => put_empty(out, tag::NULL),
         Value::ObjectIdentifier(name) => put_oid(out, name.as_slice()),
         Value::IpAddress(address) => out.put_tlv(Tag(tag::IP_ADDRESS), address),
         Value::Counter32(count) => out.put_u32(Tag(tag::COUNTER32), *count),
@@ -76,9 +85,9 @@ pub fn put_value(out: &mut Out<'_>, value: &Value) -> Result<(), BerFault>
         Value::TimeTicks(ticks) => out.put_u32(Tag(tag::TIME_TICKS), *ticks),
         Value::Opaque(octets) => out.put_tlv(Tag(tag::OPAQUE), octets.as_slice()),
         Value::Counter64(count) => out.put_u64(Tag(tag::COUNTER64), *count),
-        Value::NoSuchObject => out.put_tlv(Tag(tag::NO_SUCH_OBJECT), &[]),
-        Value::NoSuchInstance => out.put_tlv(Tag(tag::NO_SUCH_INSTANCE), &[]),
-        Value::EndOfMibView => out.put_tlv(Tag(tag::END_OF_MIB_VIEW), &[]),
+        Value::NoSuchObject => put_empty(out, tag::NO_SUCH_OBJECT),
+        Value::NoSuchInstance => put_empty(out, tag::NO_SUCH_INSTANCE),
+        Value::EndOfMibView => put_empty(out, tag::END_OF_MIB_VIEW),
     }
 }
 
