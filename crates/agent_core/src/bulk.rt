@@ -80,7 +80,8 @@ fn offer_instance<S: Successors<L>, L: Ledger>(
 {
     let Lookup { alloc, source } = lookup;
     let prefix = source.prefix(spot);
-    let value = source.value(alloc, spot);
+    let mut value = Value::Null;
+    source.value_into(alloc, spot, &mut value);
     fitting.offer(prefix, spot.index.as_slice(), &value, stand)
 }
 

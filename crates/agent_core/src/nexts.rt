@@ -87,10 +87,12 @@ fn make_binding<S: Successors<L>, L: Ledger>(
             value: Value::EndOfMibView,
         });
     }
-    Ok(Binding {
+    let mut binding = Binding {
         name: source.name(alloc, spot)?,
-        value: source.value(alloc, spot),
-    })
+        value: Value::Null,
+    };
+    source.value_into(alloc, spot, &mut binding.value);
+    Ok(binding)
 }
 
 /// What GetNext answers under a name (RFC 3416, 4.2.2), over the instances that the view shows.

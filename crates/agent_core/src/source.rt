@@ -126,10 +126,10 @@ pub trait Successors<L: Ledger>: View {
         ensures name { IfOk result (λ name. name ≡ (at self.now spot.now).name) }
         ensures long { OnErr result (INLINE_NUMBERS < length (at self.now spot.now).name) };
 
-    /// Its value. It takes no memory.
-    fn value(&self, alloc: Global, spot: &Spot) -> Value
+    /// Writes its value in place of the value that it is lent. It takes no memory.
+    fn value_into(&self, alloc: Global, spot: &Spot, into: &mut Value)
         requires { is_there self.now spot.now }
-        ensures { result ≡ (at self.now spot.now).value };
+        ensures { into.new ≡ (at self.now spot.now).value };
 
     /// Whether it is known already that the view shows the name at which a walk stands.
     fn is_known_shown(&self, stand: &Stand) -> bool

@@ -75,8 +75,8 @@ impl<O: MibObject, L: Ledger> Successors<L> for Whole<'_, O> {
         self.registry.name_at(alloc, spot)
     }
 
-    fn value(&self, alloc: Global, spot: &Spot) -> Value {
-        self.registry.value_at(alloc, self.world, spot)
+    fn value_into(&self, alloc: Global, spot: &Spot, into: &mut Value) {
+        self.registry.value_into(alloc, self.world, spot, into)
     }
 
     fn is_known_shown(&self, _stand: &Stand) -> bool {

@@ -39,8 +39,12 @@ impl MibObject for PortNumbers {
     }
 
     #[tactic(auto, unfolding(setphase_core::specs::Columns::shown_by))]
-    fn read(&self, _alloc: Global, world: &World, at: &[u32]) -> Option<Value> {
-        port_number(world, at)
+    fn read_into(&self, _alloc: Global, world: &World, at: &[u32], into: &mut Value) -> bool {
+        let Some(value) = port_number(world, at) else {
+            return false;
+        };
+        *into = value;
+        true
     }
 
     #[tactic(auto, unfolding(setphase_core::specs::Columns::shown_by))]

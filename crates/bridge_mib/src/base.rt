@@ -42,12 +42,12 @@ impl Descriptor for Base {
     }
 
     #[tactic(auto, unfolding(setphase_core::specs::Columns::shown_by))]
-    fn read(self, alloc: Global, world: &World, at: &[u32]) -> Option<Value> {
-        if is_scalar(at) {
-            Some(base_value(alloc, self, &world.bridge))
-        } else {
-            None
+    fn read_into(self, alloc: Global, world: &World, at: &[u32], into: &mut Value) -> bool {
+        if !is_scalar(at) {
+            return false;
         }
+        *into = base_value(alloc, self, &world.bridge);
+        true
     }
 
     #[tactic(auto, unfolding(setphase_core::specs::Columns::shown_by))]
@@ -101,9 +101,12 @@ impl Descriptor for BasePort {
     }
 
     #[tactic(auto, unfolding(setphase_core::specs::Columns::shown_by))]
-    fn read(self, alloc: Global, world: &World, at: &[u32]) -> Option<Value> {
-        let port = port_at(world.bridge.ports(), at)?;
-        Some(base_port_value(alloc, self, &world.bridge, port))
+    fn read_into(self, alloc: Global, world: &World, at: &[u32], into: &mut Value) -> bool {
+        let Some(port) = port_at(world.bridge.ports(), at) else {
+            return false;
+        };
+        *into = base_port_value(alloc, self, &world.bridge, port);
+        true
     }
 
     #[tactic(auto, unfolding(setphase_core::specs::Columns::shown_by))]

@@ -26,9 +26,12 @@ pub trait Descriptor: Copy {
     fn prefix(self) -> &'static [u32]
         ensures { result.now ≡ (row_of (column self)).prefix };
 
-    /// The value of the instance of this index, where there is one. It takes no memory.
-    fn read(self, alloc: Global, world: &World, at: &[u32]) -> Option<Value>
-        ensures { result ≡ value_at (shown_by (column self) world.now) at.now };
+    /// Writes the value of the instance of this index in place of the value that it is lent, and says
+    /// whether there is one. Where there is none, it writes nothing. It takes no memory.
+    fn read_into(self, alloc: Global, world: &World, at: &[u32], into: &mut Value) -> bool
+        ensures found { (if result then Some into.new else None)
+            ≡ value_at (shown_by (column self) world.now) at.now }
+        ensures none { result ≡ false → into.new ≡ into.old };
 
     /// Writes the first index after this one, or the first of all, in place of the index that it is
     /// lent, and says whether there is one. That index has no more numbers than the longest of the
@@ -88,8 +91,8 @@ impl<D: Descriptor> MibObject for Described<D> {
         self.which.prefix()
     }
 
-    fn read(&self, alloc: Global, world: &World, at: &[u32]) -> Option<Value> {
-        self.which.read(alloc, world, at)
+    fn read_into(&self, alloc: Global, world: &World, at: &[u32], into: &mut Value) -> bool {
+        self.which.read_into(alloc, world, at, into)
     }
 
     fn next_into(&self, world: &World, after: Option<&[u32]>, into: &mut Index) -> bool {

@@ -141,14 +141,21 @@ fn fdb_value(alloc: Global, which: TpFdb, address: Mac, port: u16) -> Value
     }
 }
 
-// What the learned rows show under an index.
-fn value_under(alloc: Global, which: TpFdb, fdb: &Fdb, at: &[u32]) -> Option<Value>
-    ensures { result ≡ value_at (by_address fdb.now.rows (tp_fdb_value which)) at.now }
+// Writes what the learned rows show under an index, and says whether they show anything.
+fn value_under_into(alloc: Global, which: TpFdb, fdb: &Fdb, at: &[u32], into: &mut Value) -> bool
+    ensures found { (if result then Some into.new else None)
+        ≡ value_at (by_address fdb.now.rows (tp_fdb_value which)) at.now }
+    ensures none { result ≡ false → into.new ≡ into.old }
 {
     fdb.known();
-    let address = address_at(at)?;
-    let port = fdb.find(address)?;
-    Some(fdb_value(alloc, which, address, port))
+    let Some(address) = address_at(at) else {
+        return false;
+    };
+    let Some(port) = fdb.find(address) else {
+        return false;
+    };
+    *into = fdb_value(alloc, which, address, port);
+    true
 }
 
 impl Descriptor for TpFdb {
@@ -165,8 +172,8 @@ impl Descriptor for TpFdb {
     }
 
     #[tactic(auto, unfolding(setphase_core::specs::Columns::shown_by))]
-    fn read(self, alloc: Global, world: &World, at: &[u32]) -> Option<Value> {
-        value_under(alloc, self, world.bridge.fdb(), at)
+    fn read_into(self, alloc: Global, world: &World, at: &[u32], into: &mut Value) -> bool {
+        value_under_into(alloc, self, world.bridge.fdb(), at, into)
     }
 
     #[tactic(auto, unfolding(setphase_core::specs::Columns::shown_by))]

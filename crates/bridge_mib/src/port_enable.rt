@@ -89,8 +89,8 @@ impl<L: LineDriver> MibObject for PortEnable<L> {
         StpPort::Enable.prefix()
     }
 
-    fn read(&self, alloc: Global, world: &World, at: &[u32]) -> Option<Value> {
-        StpPort::Enable.read(alloc, world, at)
+    fn read_into(&self, alloc: Global, world: &World, at: &[u32], into: &mut Value) -> bool {
+        StpPort::Enable.read_into(alloc, world, at, into)
     }
 
     fn next_into(&self, world: &World, after: Option<&[u32]>, into: &mut Index) -> bool {

@@ -140,9 +140,12 @@ impl Descriptor for Static {
     }
 
     #[tactic(auto, unfolding(setphase_core::specs::Columns::shown_by))]
-    fn read(self, alloc: Global, world: &World, at: &[u32]) -> Option<Value> {
-        let row = static_there(&world.bridge, at)?;
-        Some(static_value(alloc, self, &world.bridge, &row))
+    fn read_into(self, alloc: Global, world: &World, at: &[u32], into: &mut Value) -> bool {
+        let Some(row) = static_there(&world.bridge, at) else {
+            return false;
+        };
+        *into = static_value(alloc, self, &world.bridge, &row);
+        true
     }
 
     #[tactic(auto, unfolding(setphase_core::specs::Columns::shown_by))]

@@ -68,12 +68,12 @@ impl Descriptor for Stp {
     }
 
     #[tactic(auto, unfolding(setphase_core::specs::Columns::shown_by))]
-    fn read(self, alloc: Global, world: &World, at: &[u32]) -> Option<Value> {
-        if is_scalar(at) {
-            Some(stp_value(alloc, self, &world.bridge))
-        } else {
-            None
+    fn read_into(self, alloc: Global, world: &World, at: &[u32], into: &mut Value) -> bool {
+        if !is_scalar(at) {
+            return false;
         }
+        *into = stp_value(alloc, self, &world.bridge);
+        true
     }
 
     #[tactic(auto, unfolding(setphase_core::specs::Columns::shown_by))]
@@ -137,9 +137,12 @@ impl Descriptor for StpPort {
     }
 
     #[tactic(auto, unfolding(setphase_core::specs::Columns::shown_by))]
-    fn read(self, alloc: Global, world: &World, at: &[u32]) -> Option<Value> {
-        let port = port_at(world.bridge.ports(), at)?;
-        Some(stp_port_value(alloc, self, &world.bridge, port))
+    fn read_into(self, alloc: Global, world: &World, at: &[u32], into: &mut Value) -> bool {
+        let Some(port) = port_at(world.bridge.ports(), at) else {
+            return false;
+        };
+        *into = stp_port_value(alloc, self, &world.bridge, port);
+        true
     }
 
     #[tactic(auto, unfolding(setphase_core::specs::Columns::shown_by))]

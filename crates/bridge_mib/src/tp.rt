@@ -40,12 +40,12 @@ impl Descriptor for Tp {
     }
 
     #[tactic(auto, unfolding(setphase_core::specs::Columns::shown_by))]
-    fn read(self, _alloc: Global, world: &World, at: &[u32]) -> Option<Value> {
-        if is_scalar(at) {
-            Some(tp_value(self, &world.bridge))
-        } else {
-            None
+    fn read_into(self, _alloc: Global, world: &World, at: &[u32], into: &mut Value) -> bool {
+        if !is_scalar(at) {
+            return false;
         }
+        *into = tp_value(self, &world.bridge);
+        true
     }
 
     #[tactic(auto, unfolding(setphase_core::specs::Columns::shown_by))]
@@ -93,9 +93,12 @@ impl Descriptor for TpPort {
     }
 
     #[tactic(auto, unfolding(setphase_core::specs::Columns::shown_by))]
-    fn read(self, _alloc: Global, world: &World, at: &[u32]) -> Option<Value> {
-        let port = port_at(world.bridge.ports(), at)?;
-        Some(tp_port_value(self, &world.bridge, port))
+    fn read_into(self, _alloc: Global, world: &World, at: &[u32], into: &mut Value) -> bool {
+        let Some(port) = port_at(world.bridge.ports(), at) else {
+            return false;
+        };
+        *into = tp_port_value(self, &world.bridge, port);
+        true
     }
 
     #[tactic(auto, unfolding(setphase_core::specs::Columns::shown_by))]

@@ -84,7 +84,7 @@ one_read content bs rest b after so_far e =
 pub grows_in_binding : (content : List ℕ) (bs : List Binding) (rest : List ℕ) → IsReadSoFar content bs rest → HasLongBinding rest → HasGrowth content
 grows_in_binding content bs rest so_far long = record { front = so_far.front; rest = rest; bindings = bs; read = so_far.read; parts = so_far.parts; grows = inr long }
 
-pub grows_behind : (content : List ℕ) (bs : List Binding) (rest : List ℕ) (b : Binding) (after : List ℕ) → IsReadSoFar content bs rest → binding_at rest ≡ Ok (b, after) → HasGrowth content
+grows_behind : (content : List ℕ) (bs : List Binding) (rest : List ℕ) (b : Binding) (after : List ℕ) → IsReadSoFar content bs rest → binding_at rest ≡ Ok (b, after) → HasGrowth content
 grows_behind content bs rest b after so_far e =
     let next = one_read content bs rest b after so_far e in
     record { front = next.front; rest = after; bindings = bs ++ b ∷ []; read = next.read; parts = next.parts; grows = inl (some_last bs b) }

@@ -34,19 +34,19 @@ impl Descriptor for ColumnDescriptor {
         }
     }
 
-    fn read(self, alloc: Global, world: &World, at: &[u32]) -> Option<Value> {
+    fn read_into(self, alloc: Global, world: &World, at: &[u32], into: &mut Value) -> bool {
         match self.0 {
-            Column::Base(which) => which.read(alloc, world, at),
-            Column::BasePort(which) => which.read(alloc, world, at),
-            Column::Stp(which) => which.read(alloc, world, at),
-            Column::StpPort(which) => which.read(alloc, world, at),
-            Column::Rapid(which) => RapidDescriptor(which).read(alloc, world, at),
-            Column::ExtPort(which) => ExtPortDescriptor(which).read(alloc, world, at),
-            Column::Tp(which) => which.read(alloc, world, at),
-            Column::TpFdb(which) => which.read(alloc, world, at),
-            Column::TpPort(which) => which.read(alloc, world, at),
-            Column::Static(which) => which.read(alloc, world, at),
-            Column::Family(which) => FamilyDescriptor(which).read(alloc, world, at),
+            Column::Base(which) => which.read_into(alloc, world, at, into),
+            Column::BasePort(which) => which.read_into(alloc, world, at, into),
+            Column::Stp(which) => which.read_into(alloc, world, at, into),
+            Column::StpPort(which) => which.read_into(alloc, world, at, into),
+            Column::Rapid(which) => RapidDescriptor(which).read_into(alloc, world, at, into),
+            Column::ExtPort(which) => ExtPortDescriptor(which).read_into(alloc, world, at, into),
+            Column::Tp(which) => which.read_into(alloc, world, at, into),
+            Column::TpFdb(which) => which.read_into(alloc, world, at, into),
+            Column::TpPort(which) => which.read_into(alloc, world, at, into),
+            Column::Static(which) => which.read_into(alloc, world, at, into),
+            Column::Family(which) => FamilyDescriptor(which).read_into(alloc, world, at, into),
         }
     }
 

@@ -56,10 +56,10 @@ impl<L: LineDriver> MibObject for Object<L> {
         }
     }
 
-    fn read(&self, alloc: Global, world: &World, at: &[u32]) -> Option<Value> {
+    fn read_into(&self, alloc: Global, world: &World, at: &[u32], into: &mut Value) -> bool {
         match self {
-            Object::Plain(object) => object.read(alloc, world, at),
-            Object::Enable(object) => object.read(alloc, world, at),
+            Object::Plain(object) => object.read_into(alloc, world, at, into),
+            Object::Enable(object) => object.read_into(alloc, world, at, into),
         }
     }
 

@@ -57,9 +57,12 @@ impl Descriptor for ExtPortDescriptor {
     }
 
     #[tactic(auto, unfolding(setphase_core::specs::Columns::shown_by))]
-    fn read(self, _alloc: Global, world: &World, at: &[u32]) -> Option<Value> {
-        let port = port_at(world.bridge.ports(), at)?;
-        Some(ext_port_value(self.0, &world.bridge, port))
+    fn read_into(self, _alloc: Global, world: &World, at: &[u32], into: &mut Value) -> bool {
+        let Some(port) = port_at(world.bridge.ports(), at) else {
+            return false;
+        };
+        *into = ext_port_value(self.0, &world.bridge, port);
+        true
     }
 
     #[tactic(auto, unfolding(setphase_core::specs::Columns::shown_by))]

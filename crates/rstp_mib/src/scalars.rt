@@ -40,12 +40,12 @@ impl Descriptor for RapidDescriptor {
     }
 
     #[tactic(auto, unfolding(setphase_core::specs::Columns::shown_by))]
-    fn read(self, _alloc: Global, world: &World, at: &[u32]) -> Option<Value> {
-        if is_scalar(at) {
-            Some(rapid_value(self.0, &world.bridge))
-        } else {
-            None
+    fn read_into(self, _alloc: Global, world: &World, at: &[u32], into: &mut Value) -> bool {
+        if !is_scalar(at) {
+            return false;
         }
+        *into = rapid_value(self.0, &world.bridge);
+        true
     }
 
     #[tactic(auto, unfolding(setphase_core::specs::Columns::shown_by))]

@@ -12,8 +12,8 @@ impl MibObject for Box<dyn MibObject + Send> {
         (**self).prefix()
     }
 
-    fn read(&self, alloc: Global, world: &World, at: &[u32]) -> Option<Value> {
-        (**self).read(alloc, world, at)
+    fn read_into(&self, alloc: Global, world: &World, at: &[u32], into: &mut Value) -> bool {
+        (**self).read_into(alloc, world, at, into)
     }
 
     fn next_into(&self, world: &World, after: Option<&[u32]>, into: &mut Index) -> bool {

@@ -4,13 +4,14 @@
 //! # Entry points
 //! [`World`]: the bridge, the policy, and what was dropped, with `get_setting` and `put_setting` by
 //! key; `try_copy`, and `flat`, which gives a [`FlatWorld`] with `same`, to be kept and compared.
-//! [`MibObject`]: a managed object: what it shows, by `prefix`, `read` and `next_into`, which writes
-//! in an index that it is lent, and `next` over it; and what a Set does to it, by `test`, `commit`, `undo`, `release`, `held` and `arm`; a boxed one is one too.
+//! [`MibObject`]: a managed object: what it shows, by `prefix`, and by `read_into` and `next_into`, which
+//! write over a value and an index that they are lent, with `read` and `next` over them; and what a Set does
+//! to it, by `test`, `commit`, `undo`, `release`, `held` and `arm`; a boxed one is one too.
 //! [`Registry`]: objects by rising name, with `owner`, `read`, `next`; `place_near`, the place of a
 //! name among them, by which `owner_at`, `read_at` and `next_open` go; `begun_until`, up to where
 //! their names begin with a front; `owner_steps`, which counts its steps. `next_open` passes over
 //! objects as a whole by a test of their names, a [`Passing`], and writes where an instance stands in a
-//! [`Spot`] that it is lent; `name_at` and `value_at` give the instance that stands there.
+//! [`Spot`] that it is lent; `name_at` gives the name of the instance there, `value_into` writes its value.
 //! `known` hands on that no object's name begins another's and that what they show can be served;
 //! `held`, `release` and `arm` of all objects. [`are_named`]: whether any index may stand
 //! behind the names of objects, as a registry asks of objects of which nothing else is known.

@@ -99,9 +99,24 @@ pub trait MibObject: Drop {
     fn prefix(&self) -> &[u32]
         ensures { result.now ≡ (state self.now).row.prefix };
 
+    /// Writes the value of the instance of this index in place of the value that it is lent, and says
+    /// whether there is one. Where there is none, it writes nothing. It takes no memory.
+    fn read_into(&self, alloc: Global, world: &World, at: &[u32], into: &mut Value) -> bool
+        ensures found { (if result then Some into.new else None)
+            ≡ value_at (shown_by (state self.now).row.column world.now) at.now }
+        ensures none { result ≡ false → into.new ≡ into.old };
+
     /// The value of the instance of this index, where there is one. It takes no memory.
     fn read(&self, alloc: Global, world: &World, at: &[u32]) -> Option<Value>
-        ensures { result ≡ value_at (shown_by (state self.now).row.column world.now) at.now };
+        ensures { result ≡ value_at (shown_by (state self.now).row.column world.now) at.now }
+    {
+        let mut value = Value::Null;
+        if self.read_into(alloc, world, at, &mut value) {
+            Some(value)
+        } else {
+            None
+        }
+    }
 
     /// Writes the first index after this one, or the first of all, in place of the index that it is
     /// lent, and says whether there is one. That index has no more numbers than the longest of the

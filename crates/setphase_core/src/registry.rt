@@ -13,7 +13,7 @@ use crate::passing::{Passing, Spot};
 use crate::search::{
     begun_until, owner_name, place_by_search, place_near, place_of, value_of_name,
 };
-use crate::spots::{find_spot, name_there, prefix_there, value_there};
+use crate::spots::{find_spot, name_there, prefix_there, value_there_into};
 use crate::world::World;
 use message_core::{Binding, Value};
 use oid_core::{Oid, begins, precedes};
@@ -225,9 +225,12 @@ impl<O: MibObject> Registry<O> {
         if !self.next_spot(world, name, place, &mut spot) {
             return Ok(None);
         }
-        let name = self.name_at(alloc, &spot)?;
-        let value = self.value_at(alloc, world, &spot);
-        Ok(Some(Binding { name, value }))
+        let mut binding = Binding {
+            name: self.name_at(alloc, &spot)?,
+            value: Value::Null,
+        };
+        self.value_into(alloc, world, &spot, &mut binding.value);
+        Ok(Some(binding))
     }
 
     /// Writes where the first instance after a name stands, by the place of the name, and says whether
@@ -333,11 +336,12 @@ impl<O: MibObject> Registry<O> {
         name_there(alloc, self.objects.as_slice(), spot)
     }
 
-    /// The value of the instance at a spot. It takes no memory.
-    pub fn value_at(&self, alloc: Global, world: &World, spot: &Spot) -> Value
+    /// Writes the value of the instance at a spot in place of the value that it is lent. It takes no
+    /// memory.
+    pub fn value_into(&self, alloc: Global, world: &World, spot: &Spot, into: &mut Value)
         requires { IsThere (rows_of self.now) world.now spot.now }
-        ensures { result ≡ (instance_at (rows_of self.now) world.now spot.now).value }
+        ensures { into.new ≡ (instance_at (rows_of self.now) world.now spot.now).value }
     {
-        value_there(alloc, self.objects.as_slice(), world, spot)
+        value_there_into(alloc, self.objects.as_slice(), world, spot, into)
     }
 }

@@ -102,18 +102,19 @@ fn is_owner<O: MibObject>(objects: &[O], name: &[u32], place: usize) -> bool
     begins(prefix, name)
 }
 
-/// The same, with a comparison at two places ahead of the search: `near`, and the one behind it. `near`
-/// may be any number; a walk hands in the place that it found last.
+/// The same as `place_by_search`, with a comparison at two places ahead of the search: first the one behind
+/// `near`, since a table is asked for column by column, then `near`. `near` may be any number; a walk hands in
+/// the place that it found last.
 pub fn place_near<O: MibObject>(objects: &[O], name: &[u32], near: usize) -> Result<usize, usize>
     requires { first_fault (rows_of (map O.state objects.now)) ≡ None }
     ensures { IsPlace (prefixes_of (rows_of (map O.state objects.now))) name.now result }
 {
-    if near < objects.len() && is_owner(objects, name, near) {
-        return Ok(near);
-    }
     let behind = near.saturating_add(1);
     if behind < objects.len() && is_owner(objects, name, behind) {
         return Ok(behind);
+    }
+    if near < objects.len() && is_owner(objects, name, near) {
+        return Ok(near);
     }
     place_by_search(objects, name)
 }

@@ -95,20 +95,34 @@ pub fn prefix_there<O: MibObject>(objects: &[O], place: usize) -> &[u32]
     objects[place].prefix()
 }
 
-// The value of the instance of an object that has an index.
-fn value_under<O: MibObject>(alloc: Global, object: &O, world: &World, index: &Index) -> Value
+// Writes the value of the instance of an object that has an index in place of the value that it is lent.
+// The caller ensures that there is one.
+fn value_under_into<O: MibObject>(
+    alloc: Global,
+    object: &O,
+    world: &World,
+    index: &Index,
+    into: &mut Value,
+)
     requires { IsSome (value_at (shown_by (O.state object.now).row.column world.now)
         index.now.items) }
-    ensures { Some result
+    ensures { Some into.new
         ≡ value_at (shown_by (O.state object.now).row.column world.now) index.now.items }
 {
-    object.read(alloc, world, index.as_slice()).unwrap()
+    object.read_into(alloc, world, index.as_slice(), into);
 }
 
-/// The value of the instance at a spot. It takes no memory.
-pub fn value_there<O: MibObject>(alloc: Global, objects: &[O], world: &World, spot: &Spot) -> Value
+/// Writes the value of the instance at a spot in place of the value that it is lent. It takes no memory.
+pub fn value_there_into<O: MibObject>(
+    alloc: Global,
+    objects: &[O],
+    world: &World,
+    spot: &Spot,
+    into: &mut Value,
+)
     requires { IsThere (rows_of (map O.state objects.now)) world.now spot.now }
-    ensures { result ≡ (instance_at (rows_of (map O.state objects.now)) world.now spot.now).value }
+    ensures { into.new
+        ≡ (instance_at (rows_of (map O.state objects.now)) world.now spot.now).value }
 {
-    value_under(alloc, &objects[spot.place], world, &spot.index)
+    value_under_into(alloc, &objects[spot.place], world, &spot.index, into)
 }

@@ -41,9 +41,12 @@ impl Descriptor for FamilyDescriptor {
     }
 
     #[tactic(auto, unfolding(setphase_core::specs::Columns::shown_by))]
-    fn read(self, alloc: Global, world: &World, at: &[u32]) -> Option<Value> {
-        let row = family_at(world.policy.vacm(), at)?;
-        Some(family_value(alloc, self.0, row))
+    fn read_into(self, alloc: Global, world: &World, at: &[u32], into: &mut Value) -> bool {
+        let Some(row) = family_at(world.policy.vacm(), at) else {
+            return false;
+        };
+        *into = family_value(alloc, self.0, row);
+        true
     }
 
     #[tactic(auto, unfolding(setphase_core::specs::Columns::shown_by))]
