@@ -189,4 +189,5 @@ def main():
             measure_scene(program, pathlib.Path(folder), ports, rows, families)
 
 
-main()
+if __name__ == "__main__":
+    main()
