@@ -4,8 +4,8 @@
     bench/instructions.py [--agentd FILE]
 
 The bridge has 2 ports that forward and 10 learned rows, and all of it is seen. Each request is run over 1,100 lines and over 100: a line
-takes the difference, divided by 1,000, its request and its reply in hexadecimal included. Such a count does not depend on what else
-the machine does. Exit status 1 where the agent failed or a reply has an error.
+takes the difference, divided by 1,000, its request and its reply in hexadecimal included. A whole walk by GetNext is run 11 times and
+once, and what it takes is divided by its lines. Such a count does not depend on what else the machine does. Exit status 1 where the agent failed or a reply has an error.
 
 The agent is that which `rt run` leaves in crates/agentd/out/agentd. Debian's package valgrind is needed.
 """
@@ -21,9 +21,10 @@ sys.dont_write_bytecode = True
 import requests
 
 sys.path.insert(0, str(requests.ROOT / "tools"))
-from messages import response_in
+from messages import EMPTY, dotted, response_in
 
 MANY, FEW = 1_100, 100  # lines of the two runs
+WALKS = 11  # of the longer of two runs
 PORTS, ROWS = 2, 10
 STP = f"{requests.BRIDGE}.2"
 COLUMNS = ", ".join(f"{STP}.15.1.{column}" for column in range(1, 11))
@@ -44,16 +45,28 @@ def opening():
     return f"{links}tick 30\n{frames}".encode()
 
 
-def count(program, folder, message, lines):
-    """The instructions of a run over so many lines of a message, the last reply to which has no error."""
-    file = folder / "bench.toml"
-    file.write_text(requests.configuration(PORTS, requests.ALL))
-    words = ["valgrind", "--tool=callgrind", f"--callgrind-out-file={folder / 'callgrind.out'}", program, "script", "--config", file]
-    run = subprocess.run(words, input=opening() + requests.line_of(message) * lines, capture_output=True)
+def count(program, folder, lines):
+    """The instructions of a run over these lines, the last reply to which has no error."""
+    words = ["valgrind", "--tool=callgrind", f"--callgrind-out-file={folder / 'callgrind.out'}", program, "script", "--config"]
+    run = subprocess.run([*words, folder / "bench.toml"], input=opening() + lines, capture_output=True)
     reply = run.stdout.decode().splitlines()[-1]
     if run.returncode != 0 or response_in(bytes.fromhex(reply.removeprefix("reply ")))[0] != "noError":
-        sys.exit(f"{message}: the agent failed")
+        sys.exit("the agent failed")
     return int(re.search(rb"Collected : (\d+)", run.stderr)[1])
+
+
+def walk(program, folder):
+    """The lines of a whole walk by GetNext."""
+    lines, message, tag = [], "next public 0.0", None
+    with requests.Agent(program, folder / "bench.toml") as agent:
+        agent.write(opening())
+        for _ in range(ROWS):
+            agent.line()
+        while tag != EMPTY["endOfMibView"]:
+            lines.append(requests.line_of(message))
+            _, ((name, tag),) = agent.asked(message)
+            message = f"next public {dotted(name)}"
+    return lines
 
 
 def main():
@@ -62,9 +75,15 @@ def main():
     program = parser.parse_args().agentd
     with tempfile.TemporaryDirectory() as name:
         folder = pathlib.Path(name)
+        (folder / "bench.toml").write_text(requests.configuration(PORTS, requests.ALL))
         for what, message in MESSAGES.items():
-            taken = count(program, folder, message, MANY) - count(program, folder, message, FEW)
+            line = requests.line_of(message)
+            taken = count(program, folder, line * MANY) - count(program, folder, line * FEW)
             print(f"{what}: {taken / (MANY - FEW):,.0f}")
+        lines = walk(program, folder)
+        taken = count(program, folder, b"".join(lines * WALKS)) - count(program, folder, b"".join(lines))
+        print(f"whole walk by GetNext, a line: {taken / (WALKS - 1) / len(lines):,.0f}")
 
 
-main()
+if __name__ == "__main__":
+    main()
