@@ -1,17 +1,14 @@
 -- For which names a walk takes memory.
-use Rattle.std.proofs.Common.{◌≡◌, ℕ, ◌<◌, ◌∙◌, sym, ap, subst, refl, Bool, true, false, cond, List, [], ◌∷◌, length, arith, Contains, Option, Some, None, IsTrue, inl, inr}
+use Rattle.std.proofs.Common.{◌≡◌, ℕ, ◌<◌, ◌∙◌, sym, ap, subst, refl, Bool, true, false, cond, List, [], ◌∷◌, arith, Contains, Option, Some, None, IsTrue, inl, inr}
 use Rattle.std.specs.Prelude.{MatchOption}
 use Rattle.std.proofs.lemmas.Bool.{false≢true}
 use Rattle.std.proofs.lemmas.List.Elements.{All-contains, Contains-append_right}
 use Rattle.oid_core.specs.Order.{name_lt}
-use Rattle.oid_core.specs.declared.limits.TheConstants.{INLINE_NUMBERS}
-use Rattle.oid_core.proofs.OrderLaws.{name_lt-irrefl, name_lt-trans, any_two, before_lt}
+use Rattle.oid_core.proofs.OrderLaws.{name_lt-trans, any_two, before_lt}
 use Rattle.message_core.specs.declared.binding.Binding.{Binding}
 use Rattle.message_core.specs.Instances.{IsRising, IsLeastAfter, next_of, after}
 use Rattle.message_core.proofs.Rising.{first_least}
-use Rattle.agent_core.specs.Reading.{visible, or_end, next_answer}
-use Rattle.std.specs.Prelude.{Result, Ok, Err, OnErr}
-use Rattle.std.specs.declared.alloc.AllocError.{AllocError}
+use Rattle.agent_core.specs.Reading.{visible}
 use Rattle.agent_core.specs.Lookups.{IsPassed, PassesLong, LacksName, of_instance, of_end}
 
 Contains-at_front : (x : Binding) (xs : List Binding) (row : Binding) → x ≡ row → Contains (x ∷ xs) row
@@ -79,29 +76,6 @@ passed_next shows rows name row found next h passed hidden e is =
           let behind : name_lt row.name other.name ≡ true = apart other.name row.name (passed.until other k) (λ same. false≢true (sym hidden ∙ ap shows (sym same) ∙ shown.0.1)) in
           All-contains (λ (r : Binding). IsTrue (name_lt row.name r.name) → name_lt r.name next.name ≡ false) rows other least.least shown.0.0 behind;
     }
-
--- the walk ends at the first that is shown
-pub passed_shown : (shows : List ℕ → Bool) (rows : List Binding) (name : List ℕ) (row : Binding) → next_of (visible shows rows) name ≡ Some row → IsPassed shows rows name row
-passed_shown shows rows name row e =
-    let shown = found_shown shows rows name row e in
-    record {
-      contained = shown.0.0;
-      greater = shown.1;
-      until = λ other k. let same : row ≡ other = cc in ap (λ (r : Binding). name_lt r.name row.name) (sym same) ∙ name_lt-irrefl row.name;
-    }
-
--- the name of the answer itself
-pub lacks_answer : (shows : List ℕ → Bool) (rows : List Binding) (name : List ℕ) (b : Binding) → b ≡ next_answer (visible shows rows) name → INLINE_NUMBERS < length b.name → LacksName shows rows name
-lacks_answer shows rows name b e long = by (next_of (visible shows rows) name) refl (subst (λ (x : Binding). INLINE_NUMBERS < length x.name) e long)
-  where
-    by : (o : Option Binding) → next_of (visible shows rows) name ≡ o → INLINE_NUMBERS < length (or_end o name).name → LacksName shows rows name
-    by None none l = of_end none l
-    by (Some row) is l = of_instance (record { row = row; passed = passed_shown shows rows name row is; long = l })
-
-pub lacks_made : {A : Type 0} (result : Result A AllocError) (shows : List ℕ → Bool) (rows : List Binding) (name : List ℕ) (b : Binding) → b ≡ next_answer (visible shows rows) name →
-    OnErr result (INLINE_NUMBERS < length b.name) → OnErr result (LacksName shows rows name)
-lacks_made (Ok x) shows rows name b e h = tt
-lacks_made (Err err) shows rows name b e h = lacks_answer shows rows name b e h
 
 -- over more instances, of which the view shows the same
 pub passes_more : (shows : List ℕ → Bool) (few all : List Binding) (name : List ℕ) → visible shows few ≡ visible shows all → ((row : Binding) → Contains few row → Contains all row) →

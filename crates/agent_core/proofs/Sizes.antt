@@ -1,7 +1,6 @@
 -- What is sent by the size rule.
-use Rattle.std.proofs.Common.{◌≡◌, ℕ, pos, ◌<◌, ◌≤◌, List, [], ◌++◌, length, take, refl, ap, sym, ◌∙◌, subst}
+use Rattle.std.proofs.Common.{◌≡◌, ℕ, pos, ◌<◌, ◌≤◌, List, [], ◌+◌, ◌-◌, length, drop, take, take_all, refl, ap, sym, ◌∙◌, subst, arith}
 use Rattle.std.proofs.lemmas.Bool.{lt-ltb, le-ltb}
-use Rattle.std.proofs.Math.Seq.{take-append_seam}
 use Rattle.message_core.specs.Canon.{canon_reply}
 use Rattle.message_core.specs.declared.limits.TheConstants.{MAX_REPLY}
 use Rattle.message_core.specs.declared.reply.Reply.{Reply}
@@ -19,9 +18,10 @@ pub sized-long : (r : Reply) → MAX_REPLY < length (canon_reply r) → reply_wi
 unfolding reply_within_limit
 sized-long r long = rw (lt-ltb _ _ long) refl
 
--- the front of a buffer
-pub front : (n : ℕ) (octets rest buffer : List ℕ) → n ≡ length octets → buffer ≡ octets ++ rest → take n buffer ≡ octets
-front n octets rest buffer e b = ap (λ (m : ℕ). take m buffer) e ∙ ap (take (length octets)) b ∙ take-append_seam octets rest
+-- the end of a buffer, from a place on
+pub end_of : (start : ℕ) (octets buffer : List ℕ) → start + length octets ≡ MAX_REPLY → drop start buffer ≡ octets → take (MAX_REPLY - start) (drop (MAX_REPLY - (MAX_REPLY - start)) buffer) ≡ octets
+end_of start octets buffer at_end is =
+    ap (λ (n : ℕ). take (MAX_REPLY - start) (drop n buffer)) (omega (arith, at_end)) ∙ (ap (take (MAX_REPLY - start)) is ∙ take_all (MAX_REPLY - start) octets (omega (arith, at_end)))
 
 -- what is put of a reply that fits
 pub sent_fits : (r : Reply) (len : ℕ) (octets : List ℕ) → length (canon_reply r) ≤ MAX_REPLY → octets ≡ canon_reply r → len ≡ length (canon_reply r) →

@@ -1,10 +1,10 @@
 //! What an event gives to send: a buffer for one reply, and what is put into it (RFC 3416, 4.2:
 //! tooBig), and the BPDUs of the ports.
-ghost use Rattle.std.specs.Prelude.{◌≡◌, ◌≤◌, ℤ, [], length, pos, take};
+ghost use Rattle.std.specs.Prelude.{◌≡◌, ◌≤◌, ◌-◌, ℤ, [], drop, length, pos, take};
 ghost use Rattle.std.specs.Option.{option_copied};
 ghost use Rattle.message_core.specs.Canon.{canon_reply, answer_to};
 ghost use Rattle.message_core.specs.Encodable.{AreEncodable};
-ghost use Rattle.message_core.specs.declared.limits.TheConstants.{MAX_COMMUNITY};
+ghost use Rattle.message_core.specs.declared.limits.TheConstants.{MAX_COMMUNITY, MAX_REPLY};
 ghost use Rattle.agent_core.specs.Replies.{reply_within_limit};
 ghost use Rattle.agent_core.specs.Sets.{is_too_long, too_long_reply};
 ghost use Rattle.agent_core.specs.Answers.{IsSent};
@@ -24,6 +24,7 @@ use std::marker::Model;
 /// A buffer for what one event gives to send: one reply of at most `MAX_REPLY`, 1,472, octets, and what
 /// each port sends. It takes no memory.
 pub struct Buffer {
+    // The reply stands where it was written, at the end.
     octets: [u8; MAX_REPLY],
     length: usize,
     bpdus: Bpdus,
@@ -41,13 +42,13 @@ impl Drop for Buffer {
 }
 
 impl Model for Buffer {
-    ghost use Rattle.std.specs.Prelude.{◌≤◌, take};
+    ghost use Rattle.std.specs.Prelude.{◌≤◌, ◌-◌, drop, take};
     ghost use Rattle.message_core.specs.declared.limits.TheConstants.{MAX_REPLY};
     ghost use Rattle.agent_core.specs.Buffered.{Buffered};
 
     ghost Value = { Buffered };
 
-    ghost view = { λ b. record { reply = take b.length b.octets; bpdus = b.bpdus.items } };
+    ghost view = { λ b. record { reply = take b.length (drop (MAX_REPLY - b.length) b.octets); bpdus = b.bpdus.items } };
 
     ghost invariant = { λ b. b.length ≤ MAX_REPLY };
 }
@@ -70,7 +71,7 @@ impl Buffer {
         ensures reply { result.now ≡ self.now.reply }
         ensures most { length result.now ≤ MAX_REPLY }
     {
-        &self.octets[..self.length]
+        &self.octets[MAX_REPLY - self.length..]
     }
 
     /// What a port sends, if it sends something. Ports count from 1.
@@ -181,12 +182,12 @@ fn put_sized(
     requires community { length request.now.community ≤ MAX_COMMUNITY }
     requires encodable { AreEncodable bindings.now }
     ensures sent { IsSent (reply_within_limit (answer_to request.now status index bindings.now))
-        result (take result.length octets.new) }
+        result (take result.length (drop (MAX_REPLY - result.length) octets.new)) }
     ensures most { result.length ≤ MAX_REPLY }
 {
     match encode_answer(request, status, index, bindings, octets) {
-        Ok(length) => SentReply {
-            length,
+        Ok(start) => SentReply {
+            length: MAX_REPLY - start,
             status,
             index,
         },
@@ -207,12 +208,12 @@ fn put_encoded_sized(
     requires { length request.now.community ≤ MAX_COMMUNITY }
     ensures sent { IsSent (reply_within_limit
         (answer_to request.now ErrorStatus.NoError (pos 0) bindings.now))
-        result (take result.length octets.new) }
+        result (take result.length (drop (MAX_REPLY - result.length) octets.new)) }
     ensures most { result.length ≤ MAX_REPLY }
 {
     match encode_no_error(request, bindings, octets) {
-        Ok(length) => SentReply {
-            length,
+        Ok(start) => SentReply {
+            length: MAX_REPLY - start,
             status: ErrorStatus::NoError,
             index: 0,
         },
@@ -227,15 +228,15 @@ fn put_encoded_sized(
 // Writes tooBig without bindings, which fits beside a community of at most `MAX_COMMUNITY` octets.
 fn put_too_big(request: &Request, octets: &mut [u8; MAX_REPLY]) -> usize
     requires { length request.now.community ≤ MAX_COMMUNITY }
-    ensures reply { take result octets.new ≡ canon_reply (answer_to request.now ErrorStatus.TooBig
-        (pos 0) []) }
+    ensures reply { take result (drop (MAX_REPLY - result) octets.new)
+        ≡ canon_reply (answer_to request.now ErrorStatus.TooBig (pos 0) []) }
     ensures len { result ≡ length (canon_reply (answer_to request.now ErrorStatus.TooBig
         (pos 0) [])) }
     ensures most { result ≤ MAX_REPLY }
 {
     short_reply_fits();
     match encode_answer(request, ErrorStatus::TooBig, 0, &[], octets) {
-        Ok(length) => length,
+        Ok(start) => MAX_REPLY - start,
         Err(TooBig) => unreachable!(),
     }
 }

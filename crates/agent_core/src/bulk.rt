@@ -115,7 +115,7 @@ fn send_next<S: Successors<L>, L: Ledger>(
 {
     let Lookup { alloc, source } = lookup;
     let mut stand = stand_at(source, fitting, name);
-    if find_next(alloc, source, name, true, &mut stand, spot, steps)? {
+    if find_next(alloc, source, name, &mut stand, spot, steps)? {
         return Ok(offer_instance(lookup, spot, stand, fitting));
     }
     Ok(fitting.offer(name, &[], &Value::EndOfMibView, stand))
@@ -203,7 +203,7 @@ fn send_successor<S: Successors<L>, L: Ledger>(
     let Lookup { alloc, source } = lookup;
     let before = fitting.name(back);
     let mut stand = *fitting.stand(back);
-    if find_next(alloc, source, before, true, &mut stand, spot, steps)? {
+    if find_next(alloc, source, before, &mut stand, spot, steps)? {
         return Ok(offer_instance(lookup, spot, stand, fitting));
     }
     Ok(fitting.offer_end(back, stand))

@@ -8,7 +8,7 @@ ghost use Rattle.message_core.specs.Instances.{value_of};
 ghost use Rattle.agent_core.specs.Reading.{visible, get_answer, get_answers, is_known, object_of, or_missing};
 ghost use Rattle.agent_core.specs.Lookups.{most_lookups};
 
-use crate::reading::next_shown;
+use crate::reading::next_named;
 use crate::source::Source;
 use message_core::{Binding, Bindings, Value};
 use oid_core::Oid;
@@ -48,13 +48,11 @@ fn shows_below<S: Source<L>, L: Ledger>(
     if let Some(_itself) = shown_value(alloc, source, object)? {
         return Ok(true);
     }
-    let numbers = object.as_slice();
-    let mut stand = source.start(numbers);
     let mut spot = Spot::new();
-    if !next_shown(alloc, source, numbers, false, &mut stand, &mut spot, steps)? {
+    let Some(next) = next_named(alloc, source, object.as_slice(), &mut spot, steps)? else {
         return Ok(false);
-    }
-    Ok(object.is_prefix(&source.name(alloc, &spot)?))
+    };
+    Ok(object.is_prefix(&next))
 }
 
 // Whether an object begins the name, and the name is in the view or the view shows an instance of

@@ -9,7 +9,7 @@ ghost use Rattle.agent_core.specs.Making.{binding_of};
 ghost use Rattle.agent_core.specs.Lookups.{most_lookups, LacksName, PassesLong};
 ghost use Rattle.agent_core.specs.Lacking.{LacksNextName, IfName};
 
-use crate::reading::next_shown;
+use crate::reading::{next_named, next_shown};
 use crate::shortage::Shortage;
 use crate::source::{Stand, Successors};
 use message_core::{Binding, Bindings, Value};
@@ -25,13 +25,12 @@ use steps::Steps;
 /// an instance that the walk passes or ends at.
 ///
 /// It asks the source at most once for each instance that the view hides, and once more. The stand is
-/// at the name before the call, and at the binding's name after it. `goes_on` says whether the walk is
-/// continued behind the binding: then it keeps what it learns of the view. Only time depends on that.
+/// at the name before the call, and at the binding's name after it: with what the walk learned of the view,
+/// where an instance was found, and else as before.
 pub fn find_next<S: Successors<L>, L: Ledger>(
     alloc: Global,
     source: &S,
     name: &[u32],
-    goes_on: bool,
     stand: &mut Stand,
     spot: &mut Spot,
     steps: &mut Steps<L>,
@@ -50,7 +49,7 @@ pub fn find_next<S: Successors<L>, L: Ledger>(
 {
     source.known();
     let before = *stand;
-    if next_shown(alloc, source, name, goes_on, stand, spot, steps)? {
+    if next_shown(alloc, source, name, stand, spot, steps)? {
         return Ok(true);
     }
     *stand = before;
@@ -66,33 +65,6 @@ fn copy_of(alloc: Global, name: &Oid) -> Result<Oid, AllocError>
         Ok(copy) => Ok(copy),
         Err(_) => Err(AllocError),
     }
-}
-
-// The binding of an answer. Only memory can fail, and only for its name.
-fn make_binding<S: Successors<L>, L: Ledger>(
-    alloc: Global,
-    source: &S,
-    name: &Oid,
-    found: bool,
-    spot: &Spot,
-) -> Result<Binding, AllocError>
-    requires { IsTrue found → S.is_there source.now spot.now }
-    ensures binding { IfOk result (λ b. b ≡ binding_of (S.at source.now) name.now spot.now found) }
-    ensures long { OnErr result
-        (INLINE_NUMBERS < length (binding_of (S.at source.now) name.now spot.now found).name) }
-{
-    if !found {
-        return Ok(Binding {
-            name: copy_of(alloc, name)?,
-            value: Value::EndOfMibView,
-        });
-    }
-    let mut binding = Binding {
-        name: source.name(alloc, spot)?,
-        value: Value::Null,
-    };
-    source.value_into(alloc, spot, &mut binding.value);
-    Ok(binding)
 }
 
 /// What GetNext answers under a name (RFC 3416, 4.2.2), over the instances that the view shows.
@@ -113,11 +85,20 @@ pub fn get_next<S: Successors<L>, L: Ledger>(
     ensures lacks { OnErr result
         (LacksName (S.shows source.now) (S.instances source.now) name.now) }
 {
-    let numbers = name.as_slice();
-    let mut stand = source.start(numbers);
     let mut spot = Spot::new();
-    let found = find_next(alloc, source, numbers, false, &mut stand, &mut spot, steps)?;
-    make_binding(alloc, source, name, found, &spot)
+    source.known();
+    let Some(own) = next_named(alloc, source, name.as_slice(), &mut spot, steps)? else {
+        return Ok(Binding {
+            name: copy_of(alloc, name)?,
+            value: Value::EndOfMibView,
+        });
+    };
+    let mut binding = Binding {
+        name: own,
+        value: Value::Null,
+    };
+    source.value_into(alloc, &spot, &mut binding.value);
+    Ok(binding)
 }
 
 /// What GetNext answers under each asked name, in order (RFC 3416, 4.2.2), by the lookups of one

@@ -1,5 +1,5 @@
 //! The next instance that a view shows.
-ghost use Rattle.std.specs.Prelude.{◌≡◌, ◌≤◌, ◌<◌, ◌+◌, if◌then◌else◌, Some, None, IfOk, OnErr, IsTrue, length};
+ghost use Rattle.std.specs.Prelude.{◌≡◌, ◌≤◌, ◌<◌, ◌+◌, if◌then◌else◌, Some, None, IfOk, IfSome, IsSome, OnErr, IsTrue, length, option_map};
 ghost use Rattle.oid_core.specs.declared.limits.TheConstants.{INLINE_NUMBERS};
 ghost use Rattle.message_core.specs.Instances.{next_of};
 ghost use Rattle.agent_core.specs.Reading.{visible};
@@ -12,32 +12,12 @@ use std::alloc::{AllocError, Global};
 use std::sync::ledger::Ledger;
 use steps::Steps;
 
-// Whether the view shows a name at which a walk stands. A walk that goes on keeps what it learns of the
-// view.
-fn is_shown<S: Successors<L>, L: Ledger>(
-    source: &S,
-    name: &Oid,
-    goes_on: bool,
-    stand: &mut Stand,
-) -> bool
-    requires { S.stands source.now stand.old name.now }
-    ensures shown { result ≡ S.shows source.now name.now }
-    ensures stands { S.stands source.now stand.new name.now }
-{
-    if goes_on {
-        source.is_shown(name, stand)
-    } else {
-        source.has_name(name)
-    }
-}
-
-// Whether the view shows the instance at a spot, at whose name a walk stands. Its name is made only
-// where the view has to be asked.
+// Whether the view shows the instance at a spot, at whose name a walk stands. The walk keeps what it
+// learns of the view: the instance's name is made only where the view has to be asked.
 fn is_shown_there<S: Successors<L>, L: Ledger>(
     alloc: Global,
     source: &S,
     spot: &Spot,
-    goes_on: bool,
     stand: &mut Stand,
 ) -> Result<bool, AllocError>
     requires there { S.is_there source.now spot.now }
@@ -47,11 +27,11 @@ fn is_shown_there<S: Successors<L>, L: Ledger>(
     ensures stands { S.stands source.now stand.new (S.at source.now spot.now).name }
     ensures long { OnErr result (INLINE_NUMBERS < length (S.at source.now spot.now).name) }
 {
-    if goes_on && source.is_known_shown(stand) {
+    if source.is_known_shown(stand) {
         return Ok(true);
     }
     let name = source.name(alloc, spot)?;
-    Ok(is_shown(source, &name, goes_on, stand))
+    Ok(source.is_shown(&name, stand))
 }
 
 /// Writes where the first instance after a name stands that the view shows, and says whether there is
@@ -63,7 +43,6 @@ pub fn next_shown<S: Successors<L>, L: Ledger>(
     alloc: Global,
     source: &S,
     name: &[u32],
-    goes_on: bool,
     stand: &mut Stand,
     spot: &mut Spot,
     steps: &mut Steps<L>,
@@ -81,7 +60,7 @@ pub fn next_shown<S: Successors<L>, L: Ledger>(
     source.known();
     let mut found = source.next(name, stand, spot, steps);
     while found {
-        if is_shown_there(alloc, source, spot, goes_on, stand)? {
+        if is_shown_there(alloc, source, spot, stand)? {
             return Ok(true);
         }
         found = next_behind(alloc, source, stand, spot, steps)?;
@@ -111,4 +90,36 @@ fn next_behind<S: Successors<L>, L: Ledger>(
 {
     let name = source.name(alloc, spot)?;
     Ok(source.next(name.as_slice(), stand, spot, steps))
+}
+
+/// The name of the first instance after a name that the view shows, where there is one (RFC 3416, 4.2.2);
+/// where it stands is written in the spot that is lent. Where there is none, the spot may be any. Each
+/// lookup at the source is a step: there are at most as many as the view hides instances, and one more.
+/// Only memory can fail, and only for the name of an instance that the walk passes or ends at.
+pub fn next_named<S: Successors<L>, L: Ledger>(
+    alloc: Global,
+    source: &S,
+    name: &[u32],
+    spot: &mut Spot,
+    steps: &mut Steps<L>,
+) -> Result<Option<Oid>, AllocError>
+    ensures found { IfOk result (λ own. next_of (visible (S.shows source.now) (S.instances source.now)) name.now
+        ≡ option_map (λ _. S.at source.now spot.new) own) }
+    ensures name { IfOk result (λ own. IfSome own (λ n. n ≡ (S.at source.now spot.new).name)) }
+    ensures there { IfOk result (λ own. IsSome own → S.is_there source.now spot.new) }
+    ensures work { steps.new ≤ steps.old + most_lookups (S.shows source.now) (S.instances source.now) }
+    ensures lacks { OnErr result
+        (PassesLong (S.shows source.now) (S.instances source.now) name.now) }
+{
+    source.known();
+    let mut stand = source.start(name);
+    let mut found = source.next(name, &mut stand, spot, steps);
+    while found {
+        let own = source.name(alloc, spot)?;
+        if source.has_name(&own) {
+            return Ok(Some(own));
+        }
+        found = source.next(own.as_slice(), &mut stand, spot, steps);
+    }
+    Ok(None)
 }

@@ -1,5 +1,5 @@
 //! A policy: the communities, and the tables of access control.
-ghost use Rattle.std.specs.Prelude.{◌≡◌, ◌≢◌, ◌<◌, ◌≤◌, length, map, slice_get, option_map, Some, IfOk, IfErr, IfSome, OnOk};
+ghost use Rattle.std.specs.Prelude.{◌≡◌, ◌≢◌, ◌⊎◌, ◌<◌, ◌≤◌, length, map, slice_get, option_map, Some, IfOk, IfErr, IfSome, OnOk};
 ghost use Rattle.std.specs.Option.{ForSome};
 ghost use Rattle.vacm_core.specs.FamilyIndex.{next_family};
 ghost use Rattle.vacm_core.specs.Rules.{AreRight, BeginsRight};
@@ -18,7 +18,8 @@ use vacm_core::{Mask, Rows, Same, Vacm, VacmRows, checked_rows, copied_rows};
 /// each community's lengths and fields are right.
 pub struct Policy {
     communities: Rows<CommunityRow>,
-    vacm: Vacm,
+    // Boxed, so that a policy is moved without its tables.
+    vacm: Box<Vacm>,
 }
 
 // By hand: who drops one then knows nothing of its parts.
@@ -36,7 +37,7 @@ impl Model for Policy {
 
     ghost Value = { PolicyTables };
 
-    ghost view = { λ p. record { communities = p.communities; vacm = p.vacm } };
+    ghost view = { λ p. record { communities = p.communities; vacm = p.vacm.value } };
 
     ghost invariant = { λ p. AreSound p.communities };
 }
@@ -82,8 +83,8 @@ impl Policy {
     /// # Errors
     ///
     /// The first community at fault, and in it its lengths, then its fields, then its index;
-    /// `Memory` where a growth was refused: there is a first community, and nothing is wrong with
-    /// it.
+    /// `Memory` where a growth was refused: nothing is wrong with the first community, if there is
+    /// one.
     pub fn new(
         alloc: Global,
         communities: Rows<WrittenCommunity>,
@@ -95,9 +96,10 @@ impl Policy {
         ensures fault { IfErr result (λ e. e ≢ PolicyFault.Memory →
             IsCommunityFault communities e) }
         ensures memory { IfErr result (λ e. e ≡ PolicyFault.Memory →
-            BeginsRight community_rules communities) }
+            BeginsRight community_rules communities ⊎ AreRight community_rules communities) }
     {
         let communities = right_communities(alloc, communities)?;
+        let vacm = Box::new(alloc, vacm)?;
         Ok(Policy { communities, vacm })
     }
 
@@ -112,7 +114,7 @@ impl Policy {
         let copies = copied_rows(alloc, self.communities.as_slice())?;
         Ok(Policy {
             communities: copies,
-            vacm: self.vacm.try_copy(alloc)?,
+            vacm: Box::new(alloc, self.vacm.try_copy(alloc)?)?,
         })
     }
 

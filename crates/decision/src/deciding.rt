@@ -43,13 +43,15 @@ fn access_key_at(vacm: &Vacm, n: usize) -> AccessKey
     AccessKey::of(vacm.access_row(n))
 }
 
-// A verdict of the tables, with the keys of its rows.
-fn judged(vacm: &Vacm, verdict: Verdict) -> Decision
+// A verdict of the tables, with the keys of its rows; or that a request that is not dropped asks for
+// nothing.
+fn judged(vacm: &Vacm, verdict: Verdict, empty: bool) -> Decision
     requires { NamesRowOf vacm.now.access verdict }
-    ensures { result ≡ decision_by vacm.now.access verdict }
+    ensures { result ≡ decision_unless_empty empty (decision_by vacm.now.access verdict) }
 {
     match verdict {
         Verdict::NoSuchContext(name) => Decision::Drop(Cause::NoSuchContext(name)),
+        _ if empty => Decision::Empty,
         Verdict::NoGroupName(model, name) => {
             Decision::Refused(Refusal::NoGroupName { model, name })
         }
@@ -72,16 +74,6 @@ fn judged(vacm: &Vacm, verdict: Verdict) -> Decision
     }
 }
 
-// A decision, or that nothing is asked for by a request that is not dropped.
-fn unless_empty(empty: bool, decision: Decision) -> Decision
-    ensures { result ≡ decision_unless_empty empty decision }
-{
-    match decision {
-        Decision::Drop(cause) => Decision::Drop(cause),
-        other => { if empty { Decision::Empty } else { other } }
-    }
-}
-
 /// The decision on a request up to its names: its community (RFC 3584, section 5.2.1), its context,
 /// and what the tables of access control say (RFC 3415, section 3.2). It takes no memory.
 #[tactic(auto, unfolding(crate::specs::Deciding::decision_on))]
@@ -95,5 +87,5 @@ pub fn decide(policy: &Policy, request: &Request) -> Decision
     };
     let empty = request.bindings.as_slice().is_empty();
     let verdict = policy.vacm().decide(&asked(caller, request.kind));
-    unless_empty(empty, judged(policy.vacm(), verdict))
+    judged(policy.vacm(), verdict, empty)
 }

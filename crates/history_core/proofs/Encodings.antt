@@ -1,6 +1,5 @@
 -- Requests and their shortest encodings.
-use Rattle.std.proofs.Common.{◌≡◌, ◌≢◌, ◌∙◌, ℕ, ◌≤◌, List, [], ◌++◌, length, take, take_all, Result, Ok, ap, sym, subst, arith}
-use Rattle.std.proofs.lemmas.List.{take-append-le}
+use Rattle.std.proofs.Common.{◌≡◌, ◌≢◌, ◌∙◌, ℕ, ◌≤◌, List, [], length, Result, Ok, ap, sym, subst}
 use Rattle.message_core.specs.Canon.{canon_request}
 use Rattle.message_core.specs.Encodable.{AreEncodable, FitsRequest}
 use Rattle.message_core.specs.declared.cause.DropCause.{DropCause}
@@ -46,8 +45,3 @@ read_as octets r i = rw i.read
 
 pub kept_as : (octets : List ℕ) (r : Request) → IsEncodingOf octets r → IsEncodingOf octets (request_in octets)
 kept_as octets r i = subst (λ (x : Request). IsEncodingOf octets x) (sym (read_as octets r i)) i
-
--- the front of a buffer
-pub front_of : (n : ℕ) (buffer front back : List ℕ) → buffer ≡ front ++ back → n ≡ length front → take n buffer ≡ front
-front_of n buffer front back is len =
-    ap (take n) is ∙ (take-append-le n front back (omega (arith, len)) ∙ take_all n front (omega (arith, len)))

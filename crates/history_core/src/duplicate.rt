@@ -11,6 +11,9 @@ use crate::ranges::{are_encodable, known_request};
 use message_core::{MAX_REQUEST, Octets, Request, encode_request};
 use std::alloc::{AllocError, Global};
 
+// The most octets of a usual request: a space of so many is cleared sooner than one of `MAX_REQUEST`.
+const USUAL_REQUEST: usize = 384;
+
 /// What stands for an event a second time, since its entry and its receipt each have it. It is made
 /// before the event happens, while want of memory can still be reported.
 #[derive(Drop)]
@@ -43,6 +46,7 @@ impl Duplicate {
 
 /// The shortest encoding of a request with variable bindings, if that has at most [`MAX_REQUEST`]
 /// octets. Takes memory only where there are bindings.
+#[inline(always)]
 pub(crate) fn encoding(alloc: Global, request: &Request) -> Result<Option<Octets>, AllocError>
     requires { AreEncodable request.now.bindings }
     ensures value { IfOk result (λ found. MatchOption found (¬ IsShort request.now)
@@ -53,9 +57,24 @@ pub(crate) fn encoding(alloc: Global, request: &Request) -> Result<Option<Octets
         return Ok(None);
     }
     known_request(request);
-    let mut buffer = [0; MAX_REQUEST];
-    match encode_request(request, &mut buffer) {
-        Ok(len) => Ok(Some(Octets::from_slice(alloc, &buffer[..len])?)),
+    match encode_request(request, &mut [0; USUAL_REQUEST]) {
+        Ok(octets) => Ok(Some(Octets::from_slice(alloc, octets)?)),
+        Err(_) => long_encoding(alloc, request),
+    }
+}
+
+// As `encoding`, of a request with variable bindings, over `MAX_REQUEST` octets; apart, so that a usual request
+// does not clear them.
+#[inline(never)]
+fn long_encoding(alloc: Global, request: &Request) -> Result<Option<Octets>, AllocError>
+    requires encodable { AreEncodable request.now.bindings }
+    requires some { request.now.bindings ≢ [] }
+    ensures value { IfOk result (λ found. MatchOption found (¬ IsShort request.now)
+        (λ octets. IsEncodingOf octets request.now)) }
+{
+    known_request(request);
+    match encode_request(request, &mut [0; MAX_REQUEST]) {
+        Ok(octets) => Ok(Some(Octets::from_slice(alloc, octets)?)),
         Err(_) => Ok(None),
     }
 }
@@ -76,9 +95,8 @@ pub(crate) fn encode(octets: &[u8], request: &Request) -> bool
         return false;
     }
     known_request(request);
-    let mut buffer = [0; MAX_REQUEST];
-    match encode_request(request, &mut buffer) {
-        Ok(len) => same_octets(&buffer[..len], octets),
+    match encode_request(request, &mut [0; MAX_REQUEST]) {
+        Ok(own) => same_octets(own, octets),
         Err(_) => false,
     }
 }

@@ -75,7 +75,9 @@ impl Entries {
         requires { length self.old < MAX_ENTRIES }
         ensures { self.new ≡ self.old ++ entry ∷ [] }
     {
-        self.past.truncate(self.past.len().saturating_sub(1));
+        if !self.past.is_empty() {
+            self.past.truncate(self.past.len() - 1);
+        }
         self.kept.push_reserved(entry);
     }
 }

@@ -199,6 +199,7 @@ impl<O: MibObject> Kept<O> {
 
     // All that an event asks for beside its own growths: what stands for it a second time, and a
     // flat copy of the world where the base is to move.
+    #[inline(always)]
     fn prepare(
         &self,
         alloc: Global,
@@ -237,6 +238,7 @@ impl<O: MibObject> Kept<O> {
 
     /// The same, of an event whose duplicate was made before ([`Duplicate::of`]), so that no memory
     /// for it is taken under a lock.
+    #[inline(always)]
     pub fn apply_duplicated(
         &mut self,
         alloc: Global,
@@ -249,6 +251,7 @@ impl<O: MibObject> Kept<O> {
         requires takes { OnErr duplicate (TakesMemory (reported_of event)) }
         ensures { Applies self.old event result self.new buffer.new }
     {
+        let mut happened = quiet();
         buffer.clear();
         let number = self.next_number();
         if number == u64::MAX {
@@ -258,7 +261,6 @@ impl<O: MibObject> Kept<O> {
             put_failure(&self.world, &event, buffer);
             return Applied::Short(event);
         };
-        let mut happened = quiet();
         let Kept {
             registry,
             world,

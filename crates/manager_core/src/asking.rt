@@ -62,7 +62,7 @@ pub(crate) fn ask_for<W: Wire>(
 {
     let mut space = [0u8; MAX_REQUEST];
     match encode_request(request, &mut space) {
-        Ok(len) => send_for(alloc, wire, peer, request, &space[..len], tries),
+        Ok(octets) => send_for(alloc, wire, peer, request, octets, tries),
         Err(_) => unreachable!(),
     }
 }

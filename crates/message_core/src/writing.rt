@@ -1,5 +1,5 @@
 //! Writes a reply or a request in its shortest encoding (RFC 3417, section 8; X.690).
-ghost use Rattle.std.specs.Prelude.{◌≡◌, ◌<◌, ◌≤◌, ◌^◌, ◌++◌, [], drop, length, pos, IfOk, OnErr};
+ghost use Rattle.std.specs.Prelude.{◌≡◌, ◌<◌, ◌≤◌, ◌+◌, ◌^◌, [], drop, length, pos, IfOk, OnErr};
 ghost use Rattle.std.specs.List.{flat_map};
 ghost use Rattle.ber_core.specs.Encoding.{canon_tlv};
 ghost use Rattle.oid_core.specs.Name.{HasRoot, canon_name};
@@ -7,11 +7,12 @@ ghost use Rattle.message_core.specs.Tags as tags;
 ghost use Rattle.message_core.specs.Encodable.{IsEncodableValue, IsEncodableBinding, AreEncodable};
 ghost use Rattle.message_core.specs.Canon.{canon_name_tlv, canon_value, canon_binding, canon_bindings, canon_tail, canon_body, canon_inside, canon_message, canon_reply, canon_request, answer_to};
 ghost use Rattle.message_core.specs.Listed.{listed_bindings};
+ghost use Rattle.message_core.specs.declared.limits.TheConstants.{MAX_REQUEST};
 ghost use Rattle.ber_core.specs.Writing.{Prepends};
 
 use crate::binding::Binding;
 use crate::encoded::EncodedBindings;
-use crate::limits::{MAX_REPLY, MAX_REQUEST};
+use crate::limits::MAX_REPLY;
 use crate::reply::Reply;
 use crate::request::Request;
 use crate::status::ErrorStatus;
@@ -208,47 +209,44 @@ fn put_message(out: &mut Out<'_>, message: &Message<'_>) -> Result<(), BerFault>
     out.put_tlv_head(Tag(tag::SEQUENCE), len)
 }
 
-/// Writes a message to the front of the buffer, and answers how long it is. A message that does not
-/// fit changes nothing there. The space, as long as the buffer, is written on the way.
-fn encode(message: &Message<'_>, space: &mut [u8], buffer: &mut [u8]) -> Result<usize, TooBig>
+/// Writes a message to the end of a space, and answers where it begins there. What stands before it, or if it
+/// does not fit, in the whole space, may be any.
+#[inline(always)]
+fn encode(message: &Message<'_>, space: &mut [u8]) -> Result<usize, TooBig>
     requires names { AreEncodable (listed_bindings message.now.list) }
-    requires same_len { length space.old ≡ length buffer.old }
-    requires small { length buffer.old < 2 ^ 32 }
-    ensures ok { let m = message.now in IfOk result (λ n.
-        buffer.new ≡ canon_message m.community.now m.tag.0
-        (canon_body m.id m.first m.second (listed_bindings m.list)) ++ drop n buffer.old) }
-    ensures len { let m = message.now in IfOk result (λ n.
-        (n ≡ length (canon_message m.community.now m.tag.0
-        (canon_body m.id m.first m.second (listed_bindings m.list)))) × (n ≤ length buffer.old)) }
-    ensures too_big { let m = message.now in OnErr result (length buffer.old < length
+    requires small { length space.old < 2 ^ 32 }
+    ensures ok { let m = message.now in IfOk result (λ start.
+        drop start space.new ≡ canon_message m.community.now m.tag.0
+        (canon_body m.id m.first m.second (listed_bindings m.list))) }
+    ensures at_end { let m = message.now in IfOk result (λ start. start + length
+        (canon_message m.community.now m.tag.0 (canon_body m.id m.first m.second (listed_bindings m.list)))
+        ≡ length space.old) }
+    ensures too_big { let m = message.now in OnErr result (length space.old < length
         (canon_message m.community.now m.tag.0 (canon_body m.id m.first m.second (listed_bindings m.list)))) }
-    ensures unchanged { OnErr result (buffer.new ≡ buffer.old) }
+    ensures same_length { length space.new ≡ length space.old }
 {
     let mut out = Out::new(space);
     if put_message(&mut out, message).is_err() {
         return Err(TooBig);
     }
     let len = out.len();
-    let start = space.len() - len;
-    buffer[..len].copy_from_slice(&space[start..]);
-    Ok(len)
+    Ok(space.len() - len)
 }
 
-/// Writes the shortest encoding of a reply to the front of the buffer, and answers how long it is,
+/// Writes the shortest encoding of a reply to the end of the buffer, and answers where it begins there. It has
 /// at most `MAX_REPLY` octets.
 ///
 /// For a reply that stands alone, as a manager's or a test's; an agent answers by
 /// [`encode_answer`], which borrows the request.
 ///
-/// What stands behind it stays. `TooBig` exactly where it is longer than `MAX_REPLY` octets; the
-/// buffer is then as before. Takes no memory. The caller ensures that each name can be encoded
+/// What stands before it may be any. `TooBig` exactly where it is longer than `MAX_REPLY` octets; the buffer may
+/// then hold anything. Takes no memory. The caller ensures that each name can be encoded
 /// (`Binding::is_encodable`).
 pub fn encode_reply(reply: &Reply, buffer: &mut [u8; MAX_REPLY]) -> Result<usize, TooBig>
     requires { AreEncodable reply.now.bindings }
-    ensures ok { IfOk result (λ n. buffer.new ≡ canon_reply reply.now ++ drop n buffer.old) }
-    ensures len { IfOk result (λ n. (n ≡ length (canon_reply reply.now)) × (n ≤ MAX_REPLY)) }
+    ensures ok { IfOk result (λ start. drop start buffer.new ≡ canon_reply reply.now) }
+    ensures at_end { IfOk result (λ start. start + length (canon_reply reply.now) ≡ MAX_REPLY) }
     ensures too_big { OnErr result (MAX_REPLY < length (canon_reply reply.now)) }
-    ensures unchanged { OnErr result (buffer.new ≡ buffer.old) }
 {
     let message = Message {
         tag: Tag(tag::RESPONSE),
@@ -258,7 +256,7 @@ pub fn encode_reply(reply: &Reply, buffer: &mut [u8; MAX_REPLY]) -> Result<usize
         community: reply.community.as_slice(),
         list: Listed::Bindings(reply.bindings.as_slice()),
     };
-    encode(&message, &mut [0; MAX_REPLY], buffer)
+    encode(&message, buffer)
 }
 
 /// Writes the shortest encoding of the reply to a request that has this status, index and bindings,
@@ -276,15 +274,12 @@ pub fn encode_answer(
     buffer: &mut [u8; MAX_REPLY],
 ) -> Result<usize, TooBig>
     requires { AreEncodable bindings.now }
-    ensures ok { IfOk result (λ n.
-        buffer.new ≡ canon_reply (answer_to request.now status index bindings.now)
-        ++ drop n buffer.old) }
-    ensures len { IfOk result (λ n.
-        (n ≡ length (canon_reply (answer_to request.now status index bindings.now))) ×
-        (n ≤ MAX_REPLY)) }
+    ensures ok { IfOk result (λ start.
+        drop start buffer.new ≡ canon_reply (answer_to request.now status index bindings.now)) }
+    ensures at_end { IfOk result (λ start. start + length
+        (canon_reply (answer_to request.now status index bindings.now)) ≡ MAX_REPLY) }
     ensures too_big { OnErr result (MAX_REPLY < length
         (canon_reply (answer_to request.now status index bindings.now))) }
-    ensures unchanged { OnErr result (buffer.new ≡ buffer.old) }
 {
     let message = Message {
         tag: Tag(tag::RESPONSE),
@@ -294,28 +289,26 @@ pub fn encode_answer(
         community: request.community.as_slice(),
         list: Listed::Bindings(bindings),
     };
-    encode(&message, &mut [0; MAX_REPLY], buffer)
+    encode(&message, buffer)
 }
 
 /// Writes the shortest encoding of the reply to a request with noError, index 0 and these bindings (RFC
-/// 3416, 4.2) to the front of the buffer, and answers how long it is, at most `MAX_REPLY` octets.
+/// 3416, 4.2) to the end of the buffer, and answers where it begins there. It has at most `MAX_REPLY`, 1,472,
+/// octets.
 ///
-/// What stands behind it stays. `TooBig` exactly where it is longer than `MAX_REPLY`, 1,472, octets; the
-/// buffer is then as before. Takes no memory.
+/// What stands before it may be any. `TooBig` exactly where it is longer; the buffer may then hold anything.
+/// Takes no memory.
 pub fn encode_no_error(
     request: &Request,
     bindings: &EncodedBindings,
     buffer: &mut [u8; MAX_REPLY],
 ) -> Result<usize, TooBig>
-    ensures ok { IfOk result (λ n.
-        buffer.new ≡ canon_reply (answer_to request.now ErrorStatus.NoError (pos 0) bindings.now)
-        ++ drop n buffer.old) }
-    ensures len { IfOk result (λ n.
-        (n ≡ length (canon_reply (answer_to request.now ErrorStatus.NoError (pos 0) bindings.now))) ×
-        (n ≤ MAX_REPLY)) }
+    ensures ok { IfOk result (λ start.
+        drop start buffer.new ≡ canon_reply (answer_to request.now ErrorStatus.NoError (pos 0) bindings.now)) }
+    ensures at_end { IfOk result (λ start. start + length
+        (canon_reply (answer_to request.now ErrorStatus.NoError (pos 0) bindings.now)) ≡ MAX_REPLY) }
     ensures too_big { OnErr result (MAX_REPLY < length
         (canon_reply (answer_to request.now ErrorStatus.NoError (pos 0) bindings.now))) }
-    ensures unchanged { OnErr result (buffer.new ≡ buffer.old) }
 {
     bindings.known();
     let message = Message {
@@ -326,21 +319,20 @@ pub fn encode_no_error(
         community: request.community.as_slice(),
         list: Listed::Encoded(bindings),
     };
-    encode(&message, &mut [0; MAX_REPLY], buffer)
+    encode(&message, buffer)
 }
 
-/// Writes the shortest encoding of a request to the front of the buffer, and answers how long it
-/// is, at most `MAX_REQUEST` octets.
+/// Writes the shortest encoding of a request to the end of a space of at most `MAX_REQUEST` octets, and gives
+/// its octets there.
 ///
-/// What stands behind it stays. `TooBig` exactly where it is longer than `MAX_REQUEST` octets; the
-/// buffer is then as before. Takes no memory. The caller ensures that each name can be encoded
-/// (`Binding::is_encodable`).
-pub fn encode_request(request: &Request, buffer: &mut [u8; MAX_REQUEST]) -> Result<usize, TooBig>
-    requires { AreEncodable request.now.bindings }
-    ensures ok { IfOk result (λ n. buffer.new ≡ canon_request request.now ++ drop n buffer.old) }
-    ensures len { IfOk result (λ n. (n ≡ length (canon_request request.now)) × (n ≤ MAX_REQUEST)) }
-    ensures too_big { OnErr result (MAX_REQUEST < length (canon_request request.now)) }
-    ensures unchanged { OnErr result (buffer.new ≡ buffer.old) }
+/// `TooBig` exactly where it is longer than the space, which may then hold anything. Takes no memory. The caller
+/// ensures that each name can be encoded (`Binding::is_encodable`).
+pub fn encode_request<'a>(request: &Request, space: &'a mut [u8]) -> Result<&'a [u8], TooBig>
+    requires encodable { AreEncodable request.now.bindings }
+    requires most { length space.old ≤ MAX_REQUEST }
+    ensures ok { IfOk result (λ octets. octets.now ≡ canon_request request.now) }
+    ensures fits { IfOk result (λ _. length (canon_request request.now) ≤ length space.old) }
+    ensures too_big { OnErr result (length space.old < length (canon_request request.now)) }
 {
     let message = Message {
         tag: Tag(request.kind.tag()),
@@ -350,5 +342,6 @@ pub fn encode_request(request: &Request, buffer: &mut [u8; MAX_REQUEST]) -> Resu
         community: request.community.as_slice(),
         list: Listed::Bindings(request.bindings.as_slice()),
     };
-    encode(&message, &mut [0; MAX_REQUEST], buffer)
+    let start = encode(&message, space)?;
+    Ok(&space[start..])
 }

@@ -80,8 +80,8 @@ IsUnread ms e = ((arrays_of ms ≡ None) × (e ≡ BadField Contexts 0)) ⊎ ((a
 
 -- Where reading the arrays takes memory: each value of the arrays before some array says a row, and
 -- that has a first value that is typed as one.
-abbrev pub TakesMemoryOf : Arrays → Type 0
-TakesMemoryOf a =
+abbrev pub ReadingTakesMemoryOf : Arrays → Type 0
+ReadingTakesMemoryOf a =
     BeginsTyped IsGroup a.groups
     ⊎ (AllSay group_says a.groups × BeginsTyped IsAccess a.access)
     ⊎ (AllSay group_says a.groups × AllSay access_says a.access × BeginsTyped IsFamily a.families)
@@ -90,14 +90,33 @@ TakesMemoryOf a =
     × AllSay context_says a.contexts × BeginsTyped IsCommunity a.communities)
 
 -- Where reading the table takes memory: it has the arrays of a policy, and reading those does.
+pub record ReadingTakesMemory (ms : Members) : Type 0 where
+  pub arrays : Arrays
+  pub are : arrays_of ms ≡ Some arrays
+  pub reading : ReadingTakesMemoryOf arrays
+
+-- Where the policy of the arrays takes memory: reading them does, or each value of each array says a
+-- row: then the policy itself does.
+abbrev pub TakesMemoryOf : Arrays → Type 0
+TakesMemoryOf a =
+    ReadingTakesMemoryOf a
+    ⊎ (AllSay group_says a.groups × AllSay access_says a.access × AllSay family_says a.families
+    × AllSay context_says a.contexts × AllSay community_says a.communities)
+
+-- Where the policy of the table takes memory: it has the arrays of a policy, and the policy of those
+-- does.
 pub record TakesMemory (ms : Members) : Type 0 where
   pub arrays : Arrays
   pub are : arrays_of ms ≡ Some arrays
   pub reading : TakesMemoryOf arrays
 
--- Where checking rows that were read takes memory.
+-- Where making the policy of rows that were read takes memory: checking the rows of its tables does;
+-- or nothing is wrong with those, and checking the communities does, or nothing is wrong with them
+-- either: then the policy itself takes memory.
 abbrev pub RowsTakeMemory : PolicyRows → Type 0
-RowsTakeMemory rows = ChecksTakeMemory rows.vacm ⊎ (AreAllRight rows.vacm × BeginsRight community_rules rows.communities)
+RowsTakeMemory rows =
+    ChecksTakeMemory rows.vacm
+    ⊎ (AreAllRight rows.vacm × (BeginsRight community_rules rows.communities ⊎ AreRight community_rules rows.communities))
 
 -- the first fault of rows that were read
 abbrev pub IsPolicyFault : PolicyRows → PolicyFault → Type 0

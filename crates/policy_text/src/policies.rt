@@ -1,7 +1,7 @@
 //! Reads a policy from a TOML table.
 ghost use Rattle.std.specs.Prelude.{◌≡◌, ◌≢◌, ◌⊎◌, IfOk, IfErr, OnOk, option_map, Some, None};
 ghost use Rattle.toml.specs.View.{table_view};
-ghost use Rattle.policy_text.specs.Policies.{arrays_in, arrays_of, AreRowsOf, IsUnreadOf, SaysRows, IsUnread, TakesMemoryOf, TakesMemory, RowsTakeMemory, IsPolicyFault, policy_tables, ArePolicyRowsRight, IsPolicy, IsWrongPolicy};
+ghost use Rattle.policy_text.specs.Policies.{arrays_in, arrays_of, AreRowsOf, IsUnreadOf, SaysRows, IsUnread, ReadingTakesMemoryOf, ReadingTakesMemory, TakesMemory, RowsTakeMemory, IsPolicyFault, policy_tables, ArePolicyRowsRight, IsPolicy, IsWrongPolicy};
 ghost use Rattle.policy_text.specs.Stated.{policy_of_members};
 
 use crate::keys::{array_at, key_count};
@@ -57,7 +57,7 @@ fn read_arrays(alloc: Global, arrays: &PolicyArrays<'_>) -> Result<PolicyRows, P
     ensures fault { IfErr result (λ e. e ≢ PolicyFault.Memory →
         IsUnreadOf (arrays_in arrays.now) e) }
     ensures memory { IfErr result (λ e. e ≡ PolicyFault.Memory →
-        TakesMemoryOf (arrays_in arrays.now)) }
+        ReadingTakesMemoryOf (arrays_in arrays.now)) }
 {
     let groups = read_rows(alloc, PolicyTable::Groups, arrays.groups)?;
     let access = read_rows(alloc, PolicyTable::Access, arrays.access)?;
@@ -89,7 +89,7 @@ fn policy_rows(alloc: Global, table: &Table) -> Result<PolicyRows, PolicyFault>
     ensures rows { IfOk result (λ rows. SaysRows (table_view table.now) rows) }
     ensures fault { IfErr result (λ e. e ≢ PolicyFault.Memory → IsUnread (table_view table.now) e) }
     ensures memory { IfErr result (λ e. e ≡ PolicyFault.Memory →
-        TakesMemory (table_view table.now)) }
+        ReadingTakesMemory (table_view table.now)) }
 {
     match policy_arrays(table) {
         Some(arrays) => read_arrays(alloc, &arrays),
@@ -118,7 +118,8 @@ fn policy_of_rows(alloc: Global, rows: PolicyRows) -> Result<Policy, PolicyFault
 /// first value that is no row, in the order groups, access, families, contexts, communities. Then
 /// the first row whose length, field or key is wrong, as [`Vacm::new`] and [`Policy::new`] name it.
 /// `Memory` where a growth was refused: the table has the five arrays, the values of those before
-/// some array are rows, and that has a first value that has a row's keys and types.
+/// some array are rows, and that has a first value that has a row's keys and types; or the values of
+/// all five are rows.
 pub fn policy_of(alloc: Global, table: &Table) -> Result<Policy, PolicyFault>
     ensures policy { IfOk result (λ p. IsPolicy (table_view table.now) p) }
     ensures fault { IfErr result (λ e. e ≢ PolicyFault.Memory → IsUnread (table_view table.now) e ⊎

@@ -1,21 +1,22 @@
-use Rattle.std.proofs.Common.{◌≡◌, List, ℕ, subst}
-use Rattle.agent_core.specs.Reading.{visible, next_answer}
-use Rattle.setphase_core.proofs.States.{on_err_always}
-use Rattle.agent_core.specs.Lookups.{PassesLong, of_instance}
-use Rattle.agent_core.specs.Making.{binding_of}
-use Rattle.agent_core.proofs.Lacks.{lacks_made}
+use Rattle.std.proofs.Common.{◌≡◌, ◌∙◌, List, ℕ, Option, Some, ap, sym, subst}
+use Rattle.std.specs.Prelude.{IfSome, option_map}
+use Rattle.oid_core.specs.Name.{HasRoot}
+use Rattle.message_core.specs.declared.binding.Binding.{Binding}
+use Rattle.message_core.specs.Encodable.{IsEncodableBinding, IsEncodableValue}
+use Rattle.message_core.specs.Instances.{next_of}
+use Rattle.agent_core.specs.Reading.{visible, or_end}
+use Rattle.agent_core.proofs.Encodings.{next_answer_encodable}
 use Rattle.agent_core.proofs.nexts.get_next.Goals as goal
 
-pub returns-in_err-found-clause-lacks : goal.returns-in_err-found-clause-lacks
-returns-in_err-found-clause-lacks g c =
-    on_err_always c.from_residual.result
-    (of_instance (subst (PassesLong (g.S.View.shows c.args.source.now) (g.S.Successors.instances c.args.source.now)) c.as_slice-numbers.ensures.value c.in_err-found.ensures.lacks))
-
-pub returns-clause-lacks : goal.returns-clause-lacks
-returns-clause-lacks g c =
-    let at = g.S.Successors.at c.args.source.now in
-    let rows = visible (g.S.View.shows c.args.source.now) (g.S.Successors.instances c.args.source.now) in
-    lacks_made c.make_binding.result (g.S.View.shows c.args.source.now) (g.S.Successors.instances c.args.source.now) c.args.name.now
-    (binding_of at c.args.name.now c.find_next.new.spot c.in_ok-found.found)
-    (subst (λ (n : List ℕ). binding_of at n c.find_next.new.spot c.in_ok-found.found ≡ next_answer rows n) c.as_slice-numbers.ensures.value c.in_ok-found.ensures.answer)
-    c.make_binding.ensures.long
+pub returns-clause-encodable : goal.returns-clause-encodable
+returns-clause-encodable g c = λ root.
+    let shows = g.S.View.shows c.args.source.now in
+    let rows : List Binding = visible shows (g.S.Successors.instances c.args.source.now) in
+    let row : Binding = g.S.Successors.at c.args.source.now c.next_named.new.spot in
+    let named : c.in-Some.own ≡ row.name = subst (λ (o : Option (List ℕ)). IfSome o (λ n. n ≡ row.name)) c.in-Some.is c.in_ok-own.ensures.name in
+    let found : next_of rows c.args.name.now ≡ Some row =
+    ap (next_of rows) (sym c.as_slice.ensures.value) ∙ (c.in_ok-own.ensures.found ∙ ap (λ (o : Option (List ℕ)). option_map (λ _. row) o) c.in-Some.is) in
+    let encodable : IsEncodableBinding row =
+    subst (λ (o : Option Binding). IsEncodableBinding (or_end o c.args.name.now)) found
+    (next_answer_encodable shows (g.S.Successors.instances c.args.source.now) c.args.name.now c.known.ensures.encodable root) in
+    record { name = subst HasRoot (sym named) encodable.name; value = subst IsEncodableValue (sym c.value_into.ensures) encodable.value }
