@@ -6,6 +6,7 @@ pub mod Apart
 pub mod Rest
 pub mod Lacks
 pub mod LookupLemmas
+pub mod Walking
 pub mod Below
 pub mod SentBindings
 pub mod Sizes

@@ -137,10 +137,6 @@ audit_in (replied reply audit) = audit
 abbrev pub reply_of : Shown → Request → Option Reply
 reply_of shown request = reply_in (outcome_of shown request)
 
--- the audit of a request that writes nothing
-abbrev pub audit_of : Shown → Request → Audit
-audit_of shown request = audit_in (outcome_of shown request)
-
 -- the same objects are shown, and two views agree on whether each asked name is in them
 pub record AgreesOnAsked (shown other : Shown) (view other_view : List ℕ) (request : Request) :
     Type 0 where

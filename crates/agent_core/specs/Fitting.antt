@@ -33,7 +33,7 @@ pub record IsLongestFitting (request : Request) (all sent : List Binding) : Type
   pub longest : (other : List Binding) → IsFront other all → reply_size request other ≤ MAX_REPLY →
       length other ≤ length sent
 
--- A binding has so many octets or more: its head, a name and a value.
+-- A binding has so many octets or more: its own head, and those of its name and its value.
 abbrev pub least_binding : ℕ
 least_binding = 6
 

@@ -189,18 +189,20 @@ abbrev pub IsDenied : Option SetRefusal → Type 0
 IsDenied (Some refusal) = IsSome refusal.family
 IsDenied None = ⊥
 
--- A Set whose answer may take memory: its audit names a variable to which the view gives no access;
--- or it is not refused, it writes a setting of a static row, and the bridge was not sure of memory for
--- a row of each such setting.
+-- The assignments write a setting of a static row, and the bridge was not sure of memory for a row of
+-- each such setting.
 pub record TakesPlaces (world : World) (ws : List NamedAssignment) : Type 0 where
   pub some : 0 < static_count (assignments ws)
   pub lacks : world.bridge.statics.places
       < length world.bridge.statics.rows + static_count (assignments (committed_of ws))
 
+-- By why a Set is refused, if it is.
 abbrev pub TakesInSetBy : Option SetRefusal → World → List NamedAssignment → Type 0
 TakesInSetBy (Some refusal) world ws = IsSome refusal.family
 TakesInSetBy None world ws = TakesPlaces world ws
 
+-- A Set whose answer may take memory: its response is not too long; and its audit names a variable to
+-- which the view gives no access, or it is not refused, and takes places for static rows.
 pub record TakesInSet (rows : List ObjectRow) (world : World) (view : List ℕ)
     (request : Request) : Type 0 where
   pub fits : is_too_long request ≡ false

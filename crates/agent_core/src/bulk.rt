@@ -421,9 +421,10 @@ fn binding_number(once: usize, columns: usize, before: usize) -> usize
 /// many, also where memory fails. `most_lookups` is one more than the instances that the view hides.
 ///
 /// # Errors
-/// `Shortage::Name` with the number of the binding of which a member of the list is asked that is to be
-/// sent next, and for which a name above `INLINE_NUMBERS`, 24, numbers was made: that of an instance that
-/// the walk passes or ends at. `Shortage::Other` ahead of any lookup, where there is no memory for the list.
+/// `Shortage::Name(i)`: the binding that is to be sent next answers the request's binding i, from 1 on, in
+/// later repetitions that of its column; and there was no memory for a name above `INLINE_NUMBERS`, 24,
+/// numbers, that of an instance that its walk passes or ends at. `Shortage::Other` ahead of any lookup, where
+/// there is no memory for the list.
 pub fn get_bulk<S: Successors<L>, L: Ledger>(
     alloc: Global,
     source: &S,

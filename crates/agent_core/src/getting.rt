@@ -92,7 +92,8 @@ fn missing(known: bool) -> Value
 /// What Get answers under a name (RFC 3416, 4.2.1), over the instances that the view shows. Only
 /// memory can fail.
 ///
-/// It asks for one successor at most, to see whether an object has an instance in the view.
+/// To see whether an object has an instance in the view, it asks the source at most once for each instance
+/// that the view hides, and once more.
 pub fn get<S: Source<L>, L: Ledger>(
     alloc: Global,
     source: &S,

@@ -10,9 +10,10 @@
 //! [`audit_line`] writes. [`short_reply`] writes the reply for a want of memory, and takes none.
 //!
 //! [`get`] answers from any [`Source`], and [`get_next`] and [`get_bulk`] from any [`Successors`],
-//! each of which is a [`View`] too: they can ask it for nothing but where the next instance stands,
-//! for its name, the front of its name and its value, and whether the view shows a name; each next
-//! instance is a step. The value of an instance is made where it is sent. Its name is made where GetNext
+//! each of which is a [`View`] too: they can ask it for nothing but where a walk stands at a name, where
+//! the next instance stands, for its name, the front of its name and its value, and whether the view shows
+//! a name, or is known to; each next instance is a step. A [`Source`] can also be asked for the object and
+//! the value of a name. The value of an instance is made where it is sent. Its name is made where GetNext
 //! sends it, where Get compares it with an object, where the view is asked, and to go on behind a hidden
 //! instance. A walk stands at a name ([`Stand`]): at the place of the name among the objects, and knows of
 //! those from there on how far the view shows them whole. Each column of a GetBulk walks by itself. A
@@ -24,14 +25,14 @@
 //! is answered genErr with the binding's number (tooBig where that is too long), or for anything else.
 //!
 //! # Definitions
-//! `specs/Answers.antt`: what objects show of a world, and the step; `specs/Replies.antt`: replies
-//! by kind, and the size rule; `specs/Sets.antt`: what a Set becomes; `specs/Reading.antt`: what
-//! is visible, Get and GetNext; `specs/Lookups.antt`: the lookups that a successor takes, and for
-//! which names it takes memory; `specs/Lacking.antt`: for which binding that is;
-//! `specs/Bulk.antt`, `specs/Fitting.antt`: GetBulk; `specs/Denying.antt`: denied bindings;
-//! `specs/Buffered.antt`: what a buffer holds; `specs/Sending.antt`: a GetBulk's bindings that
-//! are to be sent, what is kept of each, and where walks stand; `specs/Standing.antt`: where a walk
-//! stands, and what it knows of a view there.
+//! `specs/Answers.antt`: what objects show of a world, and the step; `specs/Replies.antt`: replies by
+//! kind, and the size rule; `specs/Sets.antt`: what a Set becomes; `specs/Reading.antt`: what is
+//! visible, Get and GetNext; `specs/Making.antt`: what a walk found, as a binding;
+//! `specs/Lookups.antt`: the lookups that a successor takes, and for which names it takes memory;
+//! `specs/Lacking.antt`: for which binding that is; `specs/Bulk.antt`, `specs/Fitting.antt`: GetBulk;
+//! `specs/Denying.antt`: denied bindings; `specs/Buffered.antt`: what a buffer holds;
+//! `specs/Sending.antt`: a GetBulk's bindings that are to be sent, what is kept of each, and where
+//! walks stand; `specs/Standing.antt`: where a walk stands, and what it knows of a view there.
 //!
 //! # Laws
 //! In [`laws`]: where no memory is wanting, replies depend on nothing but what is visible, those of Get also on the objects and
@@ -45,7 +46,8 @@
 //! plans, which calls of a Set failed, and so which variable is reported as failed; that a name is made
 //! of a hidden instance by which a binding is noted, or that a name's want of memory is noted at all, or
 //! for which of several long names memory was refused;
-//! what is passed over, and how often `answer` asks for a successor, or asks the view.
+//! what is passed over, how often a walk is begun, and how often `answer` asks for a successor, or asks
+//! the view.
 #![tactic(auto)]
 
 mod answered;

@@ -136,15 +136,15 @@ pub trait Successors<L: Ledger>: View {
         ensures { result ≡ true → (name : List ℕ) → stands self.now stand.now name →
             Self.shows self.now name ≡ true };
 
-    /// Whether the view shows a name at which a walk stands. The view is asked only where it is not
-    /// known yet.
+    /// Whether the view shows a name at which a walk stands. It asks the view: `is_known_shown` says where
+    /// that is not needed.
     fn is_shown(&self, name: &Oid, stand: &mut Stand) -> bool
         requires { stands self.now stand.old name.now }
         ensures shown { result ≡ Self.shows self.now name.now }
         ensures stands { stands self.now stand.new name.now };
 }
 
-/// The same instances with their values, and the objects that they belong to, none of whose names
+/// The same instances, whose values can be asked for by name, and the objects that they belong to, none of whose names
 /// begins another's.
 pub trait Source<L: Ledger>: Successors<L> {
     ghost use Rattle.std.specs.Prelude.{List, ℕ};

@@ -1,6 +1,8 @@
 //! What stands for an event a second time, since its entry and its receipt each have it.
-ghost use Rattle.std.specs.Prelude.{◌≡◌, ◌≢◌, ◌↔◌, [], IsTrue, IfOk, OnErr, MatchOption};
+ghost use Rattle.std.specs.Prelude.{◌≡◌, ◌≢◌, ◌↔◌, ◌≤◌, ◌<◌, [], length, IsTrue, IfOk, OnErr, MatchOption};
+ghost use Rattle.message_core.specs.Canon.{canon_request};
 ghost use Rattle.message_core.specs.Encodable.{AreEncodable};
+ghost use Rattle.message_core.specs.declared.limits.TheConstants.{MAX_REQUEST};
 ghost use Rattle.message_core.specs.declared.request.Request.{Request};
 ghost use Rattle.history_core.specs.Encoded.{IsShort, IsEncodingOf, IsDuplicateOf};
 ghost use Rattle.history_core.specs.Receipts.{reported_of, TakesMemory};
@@ -56,10 +58,9 @@ pub(crate) fn encoding(alloc: Global, request: &Request) -> Result<Option<Octets
     if !has_bindings(request) {
         return Ok(None);
     }
-    known_request(request);
-    match encode_request(request, &mut [0; USUAL_REQUEST]) {
-        Ok(octets) => Ok(Some(Octets::from_slice(alloc, octets)?)),
-        Err(_) => long_encoding(alloc, request),
+    match encoding_over(alloc, request, &mut [0; USUAL_REQUEST])? {
+        Some(octets) => Ok(Some(octets)),
+        None => long_encoding(alloc, request),
     }
 }
 
@@ -72,8 +73,25 @@ fn long_encoding(alloc: Global, request: &Request) -> Result<Option<Octets>, All
     ensures value { IfOk result (λ found. MatchOption found (¬ IsShort request.now)
         (λ octets. IsEncodingOf octets request.now)) }
 {
+    encoding_over(alloc, request, &mut [0; MAX_REQUEST])
+}
+
+// The shortest encoding of a request with variable bindings, if the space that is lent holds it.
+#[inline(always)]
+fn encoding_over(
+    alloc: Global,
+    request: &Request,
+    space: &mut [u8],
+) -> Result<Option<Octets>, AllocError>
+    requires encodable { AreEncodable request.now.bindings }
+    requires some { request.now.bindings ≢ [] }
+    requires most { length space.old ≤ MAX_REQUEST }
+    ensures value { IfOk result (λ found. MatchOption found
+        (length space.old < length (canon_request request.now))
+        (λ octets. IsEncodingOf octets request.now)) }
+{
     known_request(request);
-    match encode_request(request, &mut [0; MAX_REQUEST]) {
+    match encode_request(request, space) {
         Ok(octets) => Ok(Some(Octets::from_slice(alloc, octets)?)),
         Err(_) => Ok(None),
     }

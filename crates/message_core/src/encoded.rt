@@ -142,7 +142,8 @@ impl EncodedBindings {
         }
     }
 
-    /// Hands on that each binding has an encoding. It does nothing.
+    /// Hands on that each binding's name, and an OBJECT IDENTIFIER value, begin as X.690, 8.19.4 asks. It does
+    /// nothing.
     pub fn known(&self)
         ensures { AreEncodable self.now }
     {

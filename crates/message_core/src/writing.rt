@@ -236,12 +236,12 @@ fn encode(message: &Message<'_>, space: &mut [u8]) -> Result<usize, TooBig>
 /// Writes the shortest encoding of a reply to the end of the buffer, and answers where it begins there. It has
 /// at most `MAX_REPLY` octets.
 ///
-/// For a reply that stands alone, as a manager's or a test's; an agent answers by
-/// [`encode_answer`], which borrows the request.
+/// For a reply that stands alone, without its request; an agent answers by [`encode_answer`], which
+/// borrows the request.
 ///
 /// What stands before it may be any. `TooBig` exactly where it is longer than `MAX_REPLY` octets; the buffer may
-/// then hold anything. Takes no memory. The caller ensures that each name can be encoded
-/// (`Binding::is_encodable`).
+/// then hold anything. Takes no memory. The caller ensures that each binding has an encoding
+/// (`Binding::is_encodable`): its name, and an OBJECT IDENTIFIER value, begin as X.690, 8.19.4 asks.
 pub fn encode_reply(reply: &Reply, buffer: &mut [u8; MAX_REPLY]) -> Result<usize, TooBig>
     requires { AreEncodable reply.now.bindings }
     ensures ok { IfOk result (λ start. drop start buffer.new ≡ canon_reply reply.now) }
@@ -326,7 +326,8 @@ pub fn encode_no_error(
 /// its octets there.
 ///
 /// `TooBig` exactly where it is longer than the space, which may then hold anything. Takes no memory. The caller
-/// ensures that each name can be encoded (`Binding::is_encodable`).
+/// ensures that each binding has an encoding (`Binding::is_encodable`): its name, and an OBJECT IDENTIFIER
+/// value, begin as X.690, 8.19.4 asks.
 pub fn encode_request<'a>(request: &Request, space: &'a mut [u8]) -> Result<&'a [u8], TooBig>
     requires encodable { AreEncodable request.now.bindings }
     requires most { length space.old ≤ MAX_REQUEST }

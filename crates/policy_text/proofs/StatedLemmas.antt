@@ -21,7 +21,7 @@ use Rattle.vacm_core.specs.declared.written.WrittenFamily.{WrittenFamily}
 use Rattle.vacm_core.specs.Rules.{Rules, wrong_of, wrong_at, IsFirstWrong, AreRight}
 use Rattle.vacm_core.specs.Faults.{IsFirstIn}
 use Rattle.vacm_core.specs.Rows.{group_rules, access_rules, family_rules, context_rules}
-use Rattle.policy_text.specs.declared.policies.PolicyRows.{PolicyRows}
+use Rattle.community_core.specs.declared.policy.PolicyRows.{PolicyRows}
 use Rattle.policy_text.specs.declared.rows.FamilyTexts.{FamilyTexts}
 use Rattle.community_core.specs.Communities.{PolicyTables, community_rules}
 use Rattle.policy_text.specs.Reading.{AreRows, IsFirstUnread, group_says, group_of, access_says, access_of, family_says, family_members, texts_say, parts_say, subtree_says, mask_of, context_says, community_says, community_of}

@@ -9,7 +9,7 @@ use Rattle.vacm_core.specs.declared.fault.VacmTable.TheVariants.{Groups, Access,
 use Rattle.vacm_core.specs.Rules.{Rules, BeginsRight}
 use Rattle.vacm_core.specs.Faults.{BeginsRightIn}
 use Rattle.vacm_core.specs.Rows.{group_rules, access_rules, family_rules, context_rules}
-use Rattle.policy_text.specs.declared.policies.PolicyRows.{PolicyRows}
+use Rattle.community_core.specs.declared.policy.PolicyRows.{PolicyRows}
 use Rattle.community_core.specs.Communities.{community_rules}
 use Rattle.policy_text.specs.Reading.{AreRows, BeginsTyped, group_says, access_says, family_says, context_says, community_says, IsGroup, IsAccess, IsFamily, IsContext, IsCommunity}
 use Rattle.policy_text.specs.Typed.{group_typed, access_typed, family_typed, context_typed, community_typed}

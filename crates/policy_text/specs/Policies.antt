@@ -9,7 +9,7 @@ use Rattle.vacm_core.specs.Rules.{AreRight, BeginsRight}
 use Rattle.vacm_core.specs.Faults.{AreAllRight, TakesMemory as ChecksTakeMemory}
 use Rattle.vacm_core.specs.Tables.{tables_of}
 use Rattle.policy_text.specs.declared.policies.PolicyArrays.{PolicyArrays}
-use Rattle.policy_text.specs.declared.policies.PolicyRows.{PolicyRows}
+use Rattle.community_core.specs.declared.policy.PolicyRows.{PolicyRows}
 use Rattle.community_core.specs.Communities.{PolicyTables, community_rules, community_row}
 use Rattle.community_core.specs.Faults.{IsVacmFault, IsCommunityFault}
 use Rattle.policy_text.specs.Keys.{key_count, array_at}

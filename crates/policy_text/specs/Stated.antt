@@ -8,7 +8,7 @@ use Rattle.toml.specs.Data.{Data, Members, as_table, as_str}
 use Rattle.vacm_core.specs.declared.written.WrittenFamily.{WrittenFamily}
 use Rattle.vacm_core.specs.Rules.{Rules, wrong_at}
 use Rattle.vacm_core.specs.Rows.{group_rules, access_rules, family_rules, context_rules}
-use Rattle.policy_text.specs.declared.policies.PolicyRows.{PolicyRows}
+use Rattle.community_core.specs.declared.policy.PolicyRows.{PolicyRows}
 use Rattle.policy_text.specs.declared.rows.FamilyTexts.{FamilyTexts}
 use Rattle.community_core.specs.Communities.{PolicyTables, community_rules}
 use Rattle.policy_text.specs.Reading.{◌>=>◌, group_of, access_of, community_of, family_members, mask_of}

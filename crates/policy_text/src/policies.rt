@@ -6,19 +6,10 @@ ghost use Rattle.policy_text.specs.Stated.{policy_of_members};
 
 use crate::keys::{array_at, key_count};
 use crate::rows::read_rows;
-use community_core::{Policy, PolicyFault, PolicyTable, WrittenCommunity};
+use community_core::{Policy, PolicyFault, PolicyRows, PolicyTable};
 use std::alloc::Global;
 use toml::{Table, Value};
-use vacm_core::{Rows, Vacm, VacmRows};
-
-/// The rows of a policy as they are written.
-#[derive(Drop)]
-pub struct PolicyRows {
-    /// The communities.
-    pub communities: Rows<WrittenCommunity>,
-    /// The tables of access control.
-    pub vacm: VacmRows,
-}
+use vacm_core::{Vacm, VacmRows};
 
 /// The five arrays of a policy.
 #[derive(Drop)]

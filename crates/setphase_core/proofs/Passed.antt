@@ -16,10 +16,11 @@ use Rattle.setphase_core.specs.declared.registry.RegistryFault.TheVariants.{Unso
 use Rattle.setphase_core.specs.Columns.{shown_by}
 use Rattle.setphase_core.specs.Objects.{ObjectRow}
 use Rattle.setphase_core.specs.Registry.{prefixes_of, first_fault, AreNamed, IsKept, under, instances_under, instances}
-use Rattle.setphase_core.specs.Searching.{prefix_at, may_follow, IsStart}
+use Rattle.setphase_core.specs.Searching.{prefix_at, may_follow}
 use Rattle.setphase_core.specs.Passing.{open_rows, open_instances, passed_after, passed_ahead, PassesHidden}
 use Rattle.setphase_core.specs.Walking.{IsWalked}
 use Rattle.setphase_core.proofs.Below.{is_below, below_from, below_lt, below_more, below_lt_then, above_not_lt, above_not_begun}
+use Rattle.setphase_core.proofs.Searches.{IsStart}
 use Rattle.setphase_core.proofs.Ordered.{AreOrdered, ordered_from}
 use Rattle.setphase_core.proofs.Found.{instances-cons, instances-nil}
 use Rattle.setphase_core.proofs.Rising.{all_append}

@@ -3,13 +3,22 @@ use Rattle.std.proofs.Common.{◌≡◌, ℕ, zero, suc, ◌+◌, ◌-◌, ◌*�
 use Rattle.std.proofs.Math.Nat.{mul-le-mul_left, pow-succ'}
 use Rattle.oid_core.specs.Order.{name_lt, is_prefix}
 use Rattle.oid_core.proofs.OrderLaws.{name_lt-trans}
-use Rattle.setphase_core.specs.Searching.{prefix_at, may_follow, IsPlaceBehind, IsOwnerPlace, IsPlace, IsStart, least_comparisons}
+use Rattle.setphase_core.specs.Searching.{prefix_at, may_follow, IsPlaceBehind, IsOwnerPlace, IsPlace, least_comparisons}
 use Rattle.setphase_core.proofs.Below.{begun_lt, begun_not_lt, begun_apart, begun_apart_back, below_itself_lt}
 use Rattle.setphase_core.proofs.Ordered.{AreOrdered, ordered_at}
 use Rattle.std.specs.List.{list_any}
 use Rattle.std.proofs.lemmas.Bool.Decides.{eqb_tells, leb_tells}
 use Rattle.std.proofs.lemmas.List.{get_or_read_under}
 use Rattle.std.proofs.lemmas.List.Folds.{list_any_at, Any-from_list_any}
+
+-- The names in front of the place are not greater than the name, and none of them begins it; each
+-- from there on is greater, or begins it.
+pub record IsStart (prefixes : List (List ℕ)) (name : List ℕ) (place : ℕ) : Type 0 where
+  pub within : place ≤ length prefixes
+  pub before : (k : ℕ) → k < place → name_lt name (prefix_at prefixes k) ≡ false
+  pub apart : (k : ℕ) → k < place → is_prefix (prefix_at prefixes k) name ≡ false
+  pub behind : (k : ℕ) → place ≤ k → k < length prefixes
+      → may_follow name (prefix_at prefixes k) ≡ true
 
 -- what stands between the turns: the place is from `low` to `high`, and `turns` turns have left so
 -- little

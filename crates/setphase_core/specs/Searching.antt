@@ -41,15 +41,6 @@ IsPlace prefixes name (Ok place) = IsOwnerPlace prefixes name (Some place)
 IsPlace prefixes name (Err place) =
     IsOwnerPlace prefixes name None × IsPlaceBehind prefixes name place
 
--- The names in front of the place are not greater than the name, and none of them begins it; each
--- from there on is greater, or begins it.
-pub record IsStart (prefixes : List (List ℕ)) (name : List ℕ) (place : ℕ) : Type 0 where
-  pub within : place ≤ length prefixes
-  pub before : (k : ℕ) → k < place → name_lt name (prefix_at prefixes k) ≡ false
-  pub apart : (k : ℕ) → k < place → is_prefix (prefix_at prefixes k) name ≡ false
-  pub behind : (k : ℕ) → place ≤ k → k < length prefixes
-      → may_follow name (prefix_at prefixes k) ≡ true
-
 -- The names from a place on and in front of an end begin with a front, and the one at the end, if
 -- there is one, does not.
 pub record AreBegun (prefixes : List (List ℕ)) (front : List ℕ) (place end : ℕ) : Type 0 where

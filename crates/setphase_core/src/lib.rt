@@ -44,8 +44,8 @@
 //! `specs/Tested.antt`: what stands between its steps; `specs/Searching.antt`: where a name stands
 //! among those of objects, and how many comparisons it takes at least to know that;
 //! `specs/Passing.antt`: the objects that a walk does not pass over, and how many it does;
-//! `specs/Walking.antt`, inside the crate but for what is known ahead of a walk: what it finds, and
-//! its steps;
+//! `specs/Walking.antt`: what is known ahead of a walk, and the instance at a spot; inside the crate,
+//! what a walk finds, and its steps;
 //! `specs/Opening.antt`: all that a bridge of two ports shows as it opens; `specs/InUse.antt`: all
 //! that a bridge of four ports shows, made by hand as if in use.
 //!

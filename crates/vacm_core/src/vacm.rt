@@ -207,7 +207,8 @@ impl Vacm {
         }
     }
 
-    /// Whether a name is in a view, and by which family row.
+    /// Whether a name is in a view, and by which family row (RFC 3415, 3.2, step 5;
+    /// vacmViewTreeFamilyTable).
     pub fn in_view(&self, view: &Name, name: &Oid) -> FamilyAnswer
         ensures answer { result ≡ family_answer self.now.families view.now name.now }
         ensures row { NamesFamilyOf self.now.families result }
@@ -218,7 +219,8 @@ impl Vacm {
     /// Whether a name is in a view, and by which family row; and the shortest front of the name under
     /// which this answer holds for every name (RFC 3415, vacmViewTreeFamilyTable). There is no front
     /// where a name that begins with this one has another answer. It takes no memory, and reads the
-    /// rows once beside what [`Vacm::in_view`] reads.
+    /// rows once beside what [`Vacm::in_view`] reads. That the view shows each name under a front (`shown`)
+    /// follows from the answer and the front, and is handed on to callers.
     pub fn in_view_under(&self, view: &Name, name: &Oid) -> FrontAnswer
         ensures answer { result.answer ≡ family_answer self.now.families view.now name.now }
         ensures row { NamesFamilyOf self.now.families result.answer }
