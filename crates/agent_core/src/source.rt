@@ -144,8 +144,8 @@ pub trait Successors<L: Ledger>: View {
         ensures stands { stands self.now stand.new name.now };
 }
 
-/// The same instances, whose values can be asked for by name, and the objects that they belong to, none of whose names
-/// begins another's.
+/// The same instances, whose values can be asked for by name, and the objects that they belong to, none
+/// of whose names begins another's.
 pub trait Source<L: Ledger>: Successors<L> {
     ghost use Rattle.std.specs.Prelude.{List, ℕ};
     ghost use Rattle.setphase_core.specs.Registry.{AreApart};
