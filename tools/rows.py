@@ -116,6 +116,8 @@ def shown(line):
 def differences(awaited, seen):
     """Where lines differ from those that are awaited."""
     wanted = [line for _, line in awaited]
+    if wanted == seen:
+        return
     for kind, start, end, first, last in difflib.SequenceMatcher(None, wanted, seen, autojunk=False).get_opcodes():
         if kind != "equal":
             yield from (f"  {place}: awaited is {shown(line)}" for place, line in awaited[start:end])
