@@ -8,17 +8,21 @@ run:
 serve:
 	tools/serve
 
-# Reads the words of documents, comments, printed texts and names; proves every crate, tries the must-fail edits, runs the tests and the programs; then runs the agent
-# so built over the stored scripts and over a random one, and serves it over UDP, where the manager and, if it is there, Net-SNMP ask
-# it, and where four clients ask it at the same time, which a script replays; then runs the manager by stored runs, in which the agent is played; last, where root has network namespaces, it tries the
-# feeder, and by it the agent between two hosts.
+# Reads the words of documents, comments, printed texts and names, and whether each function that may answer that there is no memory
+# has its row; proves every crate, tries the must-fail edits, runs the tests and the programs; then runs the agent so built over the
+# stored scripts and over a random one, refuses its growths of memory for names in turn, and serves it over UDP, where the manager and,
+# if it is there, Net-SNMP ask it, and where four clients ask it at the same time, which a script replays; then runs the manager by
+# stored runs, in which the agent is played; last, where root has network namespaces, it tries the feeder, and by it the agent between
+# two hosts.
 # As many checks run at a time as there are processors, each in one job, since a check in two takes some half more processor time. rt
 # then takes no account of free memory: have some 4 GB for each processor, or give a smaller RT_JOBS.
 test:
 	tools/words
+	tools/wants-of-memory --check
 	RT_JOBS=$${RT_JOBS:-$$(nproc)} rt ci
 	tools/stored-scripts
 	tools/random-script
+	tools/refused-growths --where-possible names family
 	tools/udp-session
 	tools/replay
 	tools/manager-session
