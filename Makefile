@@ -1,4 +1,4 @@
-.PHONY: run serve lab test bench growths scripts udp-session hostile endurance wrong-bodies
+.PHONY: run serve lab test bench growths scripts udp-session hostile attacks endurance wrong-bodies
 
 # Answers some worked lines. It compiles and runs, and proves nothing.
 run:
@@ -55,6 +55,11 @@ udp-session:
 hostile:
 	cd crates/agentd && rt run < stdin > /dev/null
 	tools/hostile
+
+# Builds agentd, proved, serves it, and attacks it where no clause speaks of what comes of it; as root in network namespaces too.
+attacks:
+	cd crates/agentd && rt run < stdin > /dev/null
+	tools/attacks
 
 # Builds agentd, proved, and serves it for an hour under a mixed load, while it watches the resident memory.
 endurance:
