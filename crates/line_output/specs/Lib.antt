@@ -1,0 +1,4 @@
+pub mod Lost
+pub mod Pending
+pub mod Steps
+pub mod Waiting
