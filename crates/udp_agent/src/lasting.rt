@@ -25,7 +25,8 @@ use std::sync::{Arc, Wait};
 use std::thread::Threads;
 use std::time::Clock;
 use wire_core::{
-    LastingWire, Pace, SecondPace, SendingSockets, StartingPace, Startup, TaskStart, Wire,
+    LastingWire, MissedSeconds, Pace, SecondPace, SendingSockets, StartingPace, Startup, TaskStart,
+    Wire,
 };
 
 /// The wire of the ticker of an agent without an end, at a pace of a tick at each whole second since
@@ -153,7 +154,8 @@ pub fn serve_forever<'r, O: MibObject + Send, R: Threads + Wait + Net + Clock + 
         alloc,
         SendingSockets::bind(rt, alloc, plan.peers.as_slice())?,
     )?;
-    let pace = StartingPace::new(rt, TaskStart::new(startup)?)?;
+    let missed = Arc::new(alloc, MissedSeconds::new())?;
+    let pace = StartingPace::new(rt, TaskStart::new(startup)?, missed)?;
     let lines = bind_lasting(rt, rt, pace, alloc, setup, &sending, startup, audits)?;
     let control = control_wire(lines.ports.as_slice(), control)?;
     let is_audited = audits.backlog().is_some();
