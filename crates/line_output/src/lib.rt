@@ -32,6 +32,8 @@ mod pending;
 mod queue;
 mod sink;
 mod step;
+#[cfg(test)]
+mod tests;
 mod text;
 mod waiting;
 mod writing;
