@@ -1,7 +1,8 @@
 //! Logs what is served, once all sockets are bound.
 use crate::setup::{PortSockets, Setup};
 use frame_core::Mac;
-use log::{Log, info};
+use line_output::file_size_limit;
+use log::{Log, info, warn};
 use std::fmt;
 use std::fmt::{Display, Formatter};
 
@@ -10,6 +11,18 @@ use std::fmt::{Display, Formatter};
 /// `, audited` behind the workers where each request is audited.
 pub fn log_ready<R: Log>(rt: &R, version: &str, setup: &Setup, is_audited: bool) {
     info!(rt; "agentd {} serves {}", version, Served { setup, is_audited });
+}
+
+/// Logs the limit of the sizes of files, where the system sets one, in a line of level Warn: an output that
+/// is a file and reaches it ends the agent, unless SIGXFSZ is ignored.
+pub(crate) fn log_limit<G: Log>(log: &G) {
+    if let Some(octets) = file_size_limit() {
+        warn!(
+            log;
+            "a limit of file sizes of {} octets: an output that reaches it ends the agent, unless SIGXFSZ is ignored",
+            octets
+        );
+    }
 }
 
 // What a setup says, and whether requests are audited.
