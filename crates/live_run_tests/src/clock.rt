@@ -3,13 +3,14 @@ use std::cell::Cell;
 use std::io;
 use std::time::{Clock, Duration};
 
-/// A clock that stands still but for its sleeps, where the test sets it on, and where each reading moves
-/// it. It cannot be read where it has no time.
+/// A clock that stands still but for its sleeps, each of which may last too long, where the test sets it on,
+/// and where each reading moves it. It cannot be read where it has no time.
 #[derive(Drop)]
 pub struct SetClock {
     now: Cell<Option<Duration>>,
     slept: Cell<Duration>,
     step: Cell<Duration>,
+    overslept: Cell<Duration>,
 }
 
 impl SetClock {
@@ -19,6 +20,7 @@ impl SetClock {
             now: Cell::new(Some(Duration::from_millis(millis))),
             slept: Cell::new(Duration::ZERO),
             step: Cell::new(Duration::ZERO),
+            overslept: Cell::new(Duration::ZERO),
         }
     }
 
@@ -37,12 +39,17 @@ impl SetClock {
         self.step.set(Duration::from_millis(millis));
     }
 
+    /// From now on each sleep lasts so many milliseconds longer.
+    pub fn oversleep_by(&self, millis: u64) {
+        self.overslept.set(Duration::from_millis(millis));
+    }
+
     /// As if it had not slept yet.
     pub fn forget_sleep(&self) {
         self.slept.set(Duration::ZERO);
     }
 
-    /// How many milliseconds its last sleep was.
+    /// How many milliseconds its last sleep was to last.
     pub fn slept_millis(&self) -> u128 {
         self.slept.get().as_millis()
     }
@@ -66,7 +73,8 @@ impl Clock for SetClock {
     fn sleep(&self, duration: Duration) {
         self.slept.set(duration);
         if let Some(now) = self.now.get() {
-            self.now.set(Some(now.saturating_add(duration)));
+            let slept = duration.saturating_add(self.overslept.get());
+            self.now.set(Some(now.saturating_add(slept)));
         }
     }
 }

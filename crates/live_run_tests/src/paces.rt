@@ -1,7 +1,19 @@
-//! How long a pace of whole seconds waits, by a clock that a test sets.
+//! How long a pace of whole seconds waits, and which seconds it misses, by a clock that a test sets.
 use crate::clock::SetClock;
+use std::alloc::Global;
+use std::sync::Arc;
 use std::test::*;
-use wire_core::{Pace, WholeSecondPace};
+use wire_core::{MissedSeconds, Pace, WholeSecondPace};
+
+// A pace that starts now by this clock, and the seconds that it misses.
+fn pace_by(
+    alloc: Global,
+    clock: &SetClock,
+) -> Result<(WholeSecondPace<&SetClock>, Arc<MissedSeconds, Global>), Fail> {
+    let missed = Arc::new(alloc, MissedSeconds::new())?;
+    let pace = WholeSecondPace::new(clock, Arc::try_clone(&missed)?)?;
+    Ok((pace, missed))
+}
 
 // How many milliseconds a pace slept for its next tick by this clock.
 fn slept<P: Pace>(pace: &mut P, clock: &SetClock) -> Result<u128, &'static str> {
@@ -16,30 +28,55 @@ fn slept<P: Pace>(pace: &mut P, clock: &SetClock) -> Result<u128, &'static str> 
 #[test]
 fn ticks_come_at_whole_seconds(rt: HostRuntime) -> Result<(), Fail> {
     let clock = SetClock::at(5500);
-    let mut pace = WholeSecondPace::new(&clock)?;
+    let (mut pace, missed) = pace_by(rt.alloc(), &clock)?;
     let first = slept(&mut pace, &clock)?;
     clock.set(6730);
     let second = slept(&mut pace, &clock)?;
     clock.set(7500);
     assert_eq!(rt;
-        (first, second, slept(&mut pace, &clock)?),
-        (1000, 770, 1000)
+        (first, second, slept(&mut pace, &clock)?, missed.take()),
+        (1000, 770, 1000, 0)
     );
     Ok(())
 }
 
-// Where seconds passed meanwhile, each has its tick at once.
+// Where seconds passed meanwhile, the last of them has a tick at once, and those before it have none.
 #[test]
-fn seconds_that_passed_have_their_ticks(rt: HostRuntime) -> Result<(), Fail> {
+fn seconds_that_passed_have_one_tick(rt: HostRuntime) -> Result<(), Fail> {
     let clock = SetClock::at(0);
-    let mut pace = WholeSecondPace::new(&clock)?;
+    let (mut pace, missed) = pace_by(rt.alloc(), &clock)?;
     clock.set(3200);
-    let passed = [
-        slept(&mut pace, &clock)?,
-        slept(&mut pace, &clock)?,
-        slept(&mut pace, &clock)?,
-    ];
-    assert_eq!(rt; (passed, slept(&mut pace, &clock)?), ([0, 0, 0], 800));
+    let passed = (slept(&mut pace, &clock)?, missed.take());
+    let next = (slept(&mut pace, &clock)?, missed.take());
+    assert_eq!(rt; (passed, next), ((0, 2), (800, 0)));
+    Ok(())
+}
+
+// A tick that is late by less than a second misses none.
+#[test]
+fn late_tick_misses_no_second(rt: HostRuntime) -> Result<(), Fail> {
+    let clock = SetClock::at(0);
+    let (mut pace, missed) = pace_by(rt.alloc(), &clock)?;
+    clock.set(1900);
+    let late = slept(&mut pace, &clock)?;
+    assert_eq!(rt;
+        (late, slept(&mut pace, &clock)?, missed.take()),
+        (0, 100, 0)
+    );
+    Ok(())
+}
+
+// Where the time passes within the wait for a tick, as where the program is stopped there, the tick is that
+// of the last second that has come: there is no second one at once.
+#[test]
+fn seconds_that_pass_in_a_wait_have_one_tick(rt: HostRuntime) -> Result<(), Fail> {
+    let clock = SetClock::at(0);
+    let (mut pace, missed) = pace_by(rt.alloc(), &clock)?;
+    clock.oversleep_by(4300);
+    let late = (slept(&mut pace, &clock)?, missed.take());
+    clock.oversleep_by(0);
+    let next = (slept(&mut pace, &clock)?, missed.take());
+    assert_eq!(rt; (late, next), ((1000, 4), (700, 0)));
     Ok(())
 }
 
@@ -47,9 +84,9 @@ fn seconds_that_passed_have_their_ticks(rt: HostRuntime) -> Result<(), Fail> {
 #[test]
 fn clock_may_fail(rt: HostRuntime) -> Result<(), Fail> {
     let clock = SetClock::at(0);
-    let mut pace = WholeSecondPace::new(&clock)?;
+    let (mut pace, missed) = pace_by(rt.alloc(), &clock)?;
     clock.stop();
-    let is_refused = WholeSecondPace::new(&clock).is_err();
+    let is_refused = WholeSecondPace::new(&clock, Arc::try_clone(&missed)?).is_err();
     assert_eq!(rt; (is_refused, slept(&mut pace, &clock)?), (true, 1000));
     Ok(())
 }

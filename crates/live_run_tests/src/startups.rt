@@ -14,7 +14,8 @@ use std::sync::Arc;
 use std::test::*;
 use std::time::Clock;
 use wire_core::{
-    LastingWire, Pace, Received, SendingSockets, StartingPace, Startup, TaskStart, Wire,
+    LastingWire, MissedSeconds, Pace, Received, SendingSockets, StartingPace, Startup, TaskStart,
+    Wire,
 };
 
 // A start of tasks of which it is not known yet how many there are.
@@ -142,8 +143,9 @@ fn start_without_a_clock_does_not_fail(rt: HostRuntime) -> Result<(), Fail> {
 }
 
 // What a pace of this start answers six times.
-fn six(clock: &SetClock, startup: &Arc<Startup, Global>) -> Result<[bool; 6], Fail> {
-    let mut pace = StartingPace::new(clock, TaskStart::new(startup)?)?;
+fn six(alloc: Global, clock: &SetClock, startup: &Arc<Startup, Global>) -> Result<[bool; 6], Fail> {
+    let missed = Arc::new(alloc, MissedSeconds::new())?;
+    let mut pace = StartingPace::new(clock, TaskStart::new(startup)?, missed)?;
     Ok([
         pace.next(),
         pace.next(),
@@ -161,9 +163,9 @@ fn pace_ends_where_a_task_does_not_begin(rt: HostRuntime) -> Result<(), Fail> {
     let (alloc, clock) = (rt.alloc(), SetClock::at(0));
     let (alone, beside) = (start(alloc)?, start(alloc)?);
     alone.expect(&clock, 1);
-    let goes_on = six(&clock, &alone)?;
+    let goes_on = six(alloc, &clock, &alone)?;
     beside.expect(&clock, 2);
-    let ends = six(&clock, &beside)?;
+    let ends = six(alloc, &clock, &beside)?;
     assert_eq!(rt; goes_on, [true, true, true, true, true, true]);
     assert_eq!(rt; ends, [true, true, true, true, false, false]);
     Ok(())

@@ -86,6 +86,21 @@ fn lasting_wire_loses_what_is_refused(rt: HostRuntime) -> Result<(), Fail> {
     Ok(())
 }
 
+// The send buffer that a wire asks for is the one that it gets, as far as the system gives one.
+#[test]
+fn send_buffer_is_as_large_as_asked_for(rt: HostRuntime) -> Result<(), Fail> {
+    let alloc = rt.alloc();
+    let sending = Arc::new(alloc, SendingSockets::bind(&rt, alloc, &[])?)?;
+    let startup = Arc::new(alloc, Startup::new())?;
+    let wire = LastingWire::bind(&rt, alloc, loopback(0), &sending, &startup, &rt)?;
+    let sizes = (
+        wire.widen_send_buffer(8192)?,
+        wire.widen_send_buffer(16_384)?,
+    );
+    assert_eq!(rt; sizes, (8192, 16_384));
+    Ok(())
+}
+
 #[test]
 fn paces_go_on(rt: HostRuntime) -> Result<(), Fail> {
     let mut count = CountPace::new(1);

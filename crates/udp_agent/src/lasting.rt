@@ -6,7 +6,7 @@ ghost use Rattle.udp_agent.specs.Lasting.{is_failure, is_any_failure, IsServingF
 
 use crate::binding::plan_of;
 use crate::lasting_binding::{LastingControl, LastingWorker, bind_lasting, control_wire};
-use crate::ready::{log_limit, log_ready};
+use crate::ready::{log_limit, log_ready, widen_requests};
 use crate::reporting::Reporter;
 use crate::setup::Setup;
 use control_socket::ControlSocket;
@@ -25,7 +25,8 @@ use std::sync::{Arc, Wait};
 use std::thread::Threads;
 use std::time::Clock;
 use wire_core::{
-    LastingWire, Pace, SecondPace, SendingSockets, StartingPace, Startup, TaskStart, Wire,
+    LastingWire, MissedSeconds, Pace, SecondPace, SendingSockets, StartingPace, Startup, TaskStart,
+    Wire,
 };
 
 /// The wire of the ticker of an agent without an end, at a pace of a tick at each whole second since
@@ -159,16 +160,19 @@ pub fn serve_forever<
         alloc,
         SendingSockets::bind(rt, alloc, plan.peers.as_slice())?,
     )?;
-    let pace = StartingPace::new(rt, TaskStart::new(startup)?)?;
+    let missed = Arc::new(alloc, MissedSeconds::new())?;
+    let pace = StartingPace::new(rt, TaskStart::new(startup)?, Arc::try_clone(&missed)?)?;
     let lines = bind_lasting(rt, rt, pace, alloc, setup, &sending, startup, audits)?;
     let control = control_wire(lines.ports.as_slice(), control)?;
     log_ready(log, version, setup, audits.queue().is_some());
     log_limit(log);
+    widen_requests(log, lines.workers.as_slice());
     let book = WorkTotals::new();
     let watch = Reporter {
         log,
         book: &book,
         losses: sending.losses(),
+        missed: &missed,
         audits: audits.queue(),
     };
     startup.expect(rt, tasks_of(&lines, control.is_some()));

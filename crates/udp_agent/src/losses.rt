@@ -1,14 +1,13 @@
 //! Logs how many datagrams were lost.
 use log::{Log, warn};
-use wire_core::{Cause, Losses, MAX_ERROR_NUMBER};
+use wire_core::{CAUSES, Cause, Losses, cause_at};
 
 /// Logs how many datagrams could not be sent since it was last logged, in a line of level Warn for
 /// each cause that occurred: `N sends lost: WHY`, by the system's words for its number.
 pub fn log_losses<R: Log>(rt: &R, losses: &Losses) {
-    for number in 1..=MAX_ERROR_NUMBER {
-        log_cause(rt, losses, Cause::Number(number));
+    for place in 0..CAUSES {
+        log_cause(rt, losses, cause_at(place));
     }
-    log_cause(rt, losses, Cause::Other);
 }
 
 // Logs how many were lost by one cause, if any were.

@@ -11,7 +11,7 @@ use live_run::{Report, RunFault};
 use log::{Log, error, info, warn};
 use std::fmt::Display;
 use std::sync::Wait;
-use wire_core::{Losses, WireFault};
+use wire_core::{Losses, MissedSeconds, WireFault};
 
 /// Logs what a run did, in one line of level Info: `entries E requests Q older O drops D`.
 pub fn log_report<R: Log>(rt: &R, report: &Report) {
@@ -46,7 +46,7 @@ pub fn log_not_begun<R: Log, E: Display>(rt: &R, why: &E) {
 /// Logs how lines go on, by this log: at the end of each interval of the ticker what all did so far, by
 /// the book of all lines, in a line of level Info as that of [`log_report`], and the drops by cause in
 /// another, with the requests of unknown communities and contexts that the world counts, and how many
-/// lines of audits were lost, if any were, in a line of level Warn; behind each command of an operator but
+/// seconds had no tick and how many lines of audits were lost, if any were, in a line of level Warn each; behind each command of an operator but
 /// one for the counts, what became of it; where a fault ended an interval, which line's and why, and how
 /// many there were so far, in a line of level Warn; where a line ends, which and why, in a line of level
 /// Error.
@@ -58,6 +58,8 @@ pub struct Reporter<'r, G> {
     pub book: &'r WorkTotals,
     /// What could not be sent.
     pub losses: &'r Losses,
+    /// The seconds that had no tick.
+    pub missed: &'r MissedSeconds,
     /// The queue of the lines of audits, which counts those that were lost; none where none is asked for.
     pub audits: Option<&'r LineQueue>,
 }
@@ -76,6 +78,14 @@ impl<G: Log> Reporter<'_, G> {
             counts.bad_communities,
             counts.unknown_contexts
         );
+    }
+
+    // Logs how many seconds had no tick since it was last logged, if any were.
+    fn log_missed(&self) {
+        let missed = self.missed.take();
+        if missed > 0 {
+            warn!(self.log; "{} seconds had no tick", missed);
+        }
     }
 
     // Logs how many lines of audits were lost since it was last logged, if any were.
@@ -102,6 +112,7 @@ impl<G: Log> Watch for Reporter<'_, G> {
             log: self.log,
             book: self.book,
             losses: self.losses,
+            missed: self.missed,
             audits: self.audits,
         }
     }
@@ -130,6 +141,7 @@ impl<G: Log> Watch for Reporter<'_, G> {
         );
         self.log_drops(worked.by_cause, counts);
         log_losses(self.log, self.losses);
+        self.log_missed();
         self.log_lost_audits(rt);
     }
 

@@ -6,6 +6,7 @@ pub mod FailingLaws
 pub mod Pacing
 pub mod PacingLaws
 pub mod Losses
+pub mod Receiving
 pub mod Lasting
 pub mod LastingLaws
 pub mod Startup

@@ -1,5 +1,6 @@
 -- What a pace answers.
-use Rattle.std.specs.Prelude.{◌≡◌, ℕ, ◌+◌, Bool, true, false, List, [], ◌∷◌}
+use Rattle.std.specs.Prelude.{◌≡◌, ℕ, ◌+◌, ◌-◌, ◌/◌, ◌≤◌, ◌⊎◌, max, Bool, true, false, List, [], ◌∷◌}
+use Rattle.wire_core.specs.Acts.{one_more}
 
 -- A pace of so many ticks says true for each of them, and false where none is left.
 abbrev pub CountsDown : ℕ → List Bool → ℕ → Type 0
@@ -13,9 +14,31 @@ GoesOnForEver [] = Unit
 GoesOnForEver (true ∷ answers) = GoesOnForEver answers
 GoesOnForEver (false ∷ answers) = ⊥
 
--- A pace that goes on until it has ended, by whether it has: true each time before, and false from then on.
-abbrev pub GoesOnUntilEnded : Bool → List Bool → Bool → Type 0
-GoesOnUntilEnded ended [] ended' = ended' ≡ ended
-GoesOnUntilEnded false (true ∷ answers) ended' = GoesOnUntilEnded false answers ended'
-GoesOnUntilEnded true (true ∷ answers) ended' = ⊥
-GoesOnUntilEnded ended (false ∷ answers) ended' = GoesOnUntilEnded true answers ended'
+-- The second of a tick behind that of this second, when so many nanoseconds have passed since the start: the
+-- one behind it, or the last that is whole by then, where that is later.
+abbrev pub second_of_tick : ℕ → ℕ → ℕ
+second_of_tick passed second = max (one_more second) (passed / 1000000000)
+
+-- How many seconds between those of two ticks have none.
+abbrev pub missed_between : ℕ → ℕ → ℕ
+missed_between second next = next - one_more second
+
+-- A pace of whole seconds says true each time, with a second behind those before, and counts its answers: the
+-- second of the last answer and how many answers there were, before and afterwards.
+abbrev pub TicksOn : ℕ → ℕ → List Bool → ℕ → ℕ → Type 0
+TicksOn second ticks [] second' ticks' = (second' ≡ second) × (ticks' ≡ ticks)
+TicksOn second ticks (true ∷ answers) second' ticks' =
+    (next : ℕ) × (one_more second ≤ next) × TicksOn next (one_more ticks) answers second' ticks'
+TicksOn second ticks (false ∷ answers) second' ticks' = ⊥
+
+-- A pace that goes on until it has ended, by whether it has, and how many answers the pace inside gave: true
+-- each time before, of one answer of the pace inside each; false from then on, where the pace inside gave at
+-- most one answer for the first, and none for the others.
+abbrev pub GoesOnUntilEnded : Bool → ℕ → List Bool → Bool → ℕ → Type 0
+GoesOnUntilEnded ended given [] ended' given' = (ended' ≡ ended) × (given' ≡ given)
+GoesOnUntilEnded false given (true ∷ answers) ended' given' =
+    GoesOnUntilEnded false (one_more given) answers ended' given'
+GoesOnUntilEnded true given (true ∷ answers) ended' given' = ⊥
+GoesOnUntilEnded false given (false ∷ answers) ended' given' =
+    (last : ℕ) × ((last ≡ given) ⊎ (last ≡ one_more given)) × GoesOnUntilEnded true last answers ended' given'
+GoesOnUntilEnded true given (false ∷ answers) ended' given' = GoesOnUntilEnded true given answers ended' given'

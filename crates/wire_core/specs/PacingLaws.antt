@@ -1,6 +1,7 @@
 -- Answers of a pace, one list behind another.
-use Rattle.std.proofs.Common.{ℕ, Bool, true, false, List, [], ◌∷◌, ◌++◌, refl, sym}
-use Rattle.wire_core.specs.Pacing.{CountsDown, GoesOnForEver, GoesOnUntilEnded}
+use Rattle.std.proofs.Common.{ℕ, Bool, true, false, List, [], ◌∷◌, ◌++◌, refl, sym, subst}
+use Rattle.wire_core.specs.Acts.{one_more}
+use Rattle.wire_core.specs.Pacing.{CountsDown, GoesOnForEver, TicksOn, GoesOnUntilEnded}
 
 pub counting_starts : (a : ℕ) → CountsDown a [] a
 counting_starts a = refl
@@ -15,11 +16,26 @@ endless_goes_on [] ys p q = q
 endless_goes_on (true ∷ xs) ys p q = endless_goes_on xs ys p q
 endless_goes_on (false ∷ xs) ys p q = absurd p
 
-pub ending_starts : (a : Bool) → GoesOnUntilEnded a [] a
-ending_starts a = refl
+pub ticking_starts : (second ticks : ℕ) → TicksOn second ticks [] second ticks
+ticking_starts second ticks = (refl, refl)
 
-pub ending_goes_on : (a b c : Bool) (xs ys : List Bool) → GoesOnUntilEnded a xs b → GoesOnUntilEnded b ys c → GoesOnUntilEnded a (xs ++ ys) c
-ending_goes_on a b c [] ys p q = let P : Bool → Type 0 = λ ended. GoesOnUntilEnded ended ys c in rw (sym p) q
-ending_goes_on false b c (true ∷ xs) ys p q = ending_goes_on false b c xs ys p q
-ending_goes_on true b c (true ∷ xs) ys p q = absurd p
-ending_goes_on a b c (false ∷ xs) ys p q = ending_goes_on true b c xs ys p q
+pub ticking_goes_on : (s m t n u o : ℕ) (xs ys : List Bool) → TicksOn s m xs t n → TicksOn t n ys u o → TicksOn s m (xs ++ ys) u o
+ticking_goes_on s m t n u o [] ys p q =
+    let P : ℕ → Type 0 = λ k. TicksOn k m ys u o in
+    let Q : ℕ → Type 0 = λ k. TicksOn t k ys u o in
+    subst P p.0 (subst Q p.1 q)
+ticking_goes_on s m t n u o (true ∷ xs) ys p q = (p.0, p.1, ticking_goes_on p.0 (one_more m) t n u o xs ys p.2 q)
+ticking_goes_on s m t n u o (false ∷ xs) ys p q = absurd p
+
+pub ending_starts : (a : Bool) (given : ℕ) → GoesOnUntilEnded a given [] a given
+ending_starts a given = (refl, refl)
+
+pub ending_goes_on : (a : Bool) (l : ℕ) (b : Bool) (m : ℕ) (c : Bool) (n : ℕ) (xs ys : List Bool) → GoesOnUntilEnded a l xs b m → GoesOnUntilEnded b m ys c n → GoesOnUntilEnded a l (xs ++ ys) c n
+ending_goes_on a l b m c n [] ys p q =
+    let P : Bool → Type 0 = λ ended. GoesOnUntilEnded ended l ys c n in
+    let Q : ℕ → Type 0 = λ given. GoesOnUntilEnded b given ys c n in
+    subst P p.0 (subst Q p.1 q)
+ending_goes_on false l b m c n (true ∷ xs) ys p q = ending_goes_on false (one_more l) b m c n xs ys p q
+ending_goes_on true l b m c n (true ∷ xs) ys p q = absurd p
+ending_goes_on false l b m c n (false ∷ xs) ys p q = (p.0, p.1, ending_goes_on true p.0 b m c n xs ys p.2 q)
+ending_goes_on true l b m c n (false ∷ xs) ys p q = ending_goes_on true l b m c n xs ys p q

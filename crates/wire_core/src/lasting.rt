@@ -1,10 +1,11 @@
 //! A wire over a UDP socket, for an agent that is served without an end.
-ghost use Rattle.std.specs.Prelude.{◌≡◌, true, false, length, IfOk, IfErr, OnOk, OnErr};
-ghost use Rattle.std.specs.IoError.{raw_os_error};
+ghost use Rattle.std.specs.Prelude.{◌≡◌, length, IfOk, IfErr, OnOk, OnErr};
+ghost use Rattle.std.specs.IoError.{raw_os_error, error_kind};
 ghost use Rattle.wire_core.specs.Acts.{IsWithin, one_more};
 ghost use Rattle.wire_core.specs.declared.wire.WireFault.TheVariants.{Receive};
-ghost use Rattle.wire_core.specs.Losses.{IsGone};
+ghost use Rattle.wire_core.specs.Receiving.{is_gone, failed_by, received_of};
 
+use crate::send_buffer::{send_buffer, set_send_buffer};
 use crate::sockets::SendingSockets;
 use crate::startup::{Startup, TaskStart};
 use crate::udp::{RECEIVE_WAIT_MILLIS, gave_nothing};
@@ -90,6 +91,18 @@ impl<C: Clock + Copy> LastingWire<C> {
         })
     }
 
+    /// Asks the system for a send buffer of so many octets at its socket, which all wires over it share, and
+    /// gives how many it is of afterwards. The system gives no more than its limit (of Linux
+    /// `net.core.wmem_max`), without an error. Linux reports twice what it takes for octets, since as much
+    /// goes to its own use; here it is half of that.
+    ///
+    /// # Errors
+    /// That of the system.
+    pub fn widen_send_buffer(&self, octets: u32) -> io::Result<usize> {
+        set_send_buffer(&self.socket, octets)?;
+        send_buffer(&self.socket)
+    }
+
     /// The address to which its socket is bound.
     ///
     /// # Errors
@@ -107,13 +120,26 @@ impl<C: Clock + Drop> LastingWire<C> {
         ensures kept { OnOk result (self.new.failures ≡ self.old.failures) }
         ensures failed { OnErr result (self.new.failures ≡ one_more self.old.failures) }
     {
-        match self.socket.recv_from(into) {
-            Ok((len, peer)) => Ok(Received::Datagram(len, peer)),
-            Err(error) if is_gone(&error) => {
+        let answer = self.socket.recv_from(into);
+        self.received(answer)
+    }
+
+    // What a receive gives that the system answered so. Behind an error of a socket that is there it waits.
+    fn received(&mut self, answer: io::Result<(usize, SocketAddr)>) -> Result<Received, WireFault>
+        ensures received { result ≡ received_of answer }
+        ensures kept { OnOk result (self.new.failures ≡ self.old.failures) }
+        ensures failed { OnErr result (self.new.failures ≡ one_more self.old.failures) }
+    {
+        let error = match answer {
+            Ok((len, peer)) => return Ok(Received::Datagram(len, peer)),
+            Err(error) => error,
+        };
+        match failed_by(&error) {
+            FailedReceive::SocketGone => {
                 Err(count_failure(&mut self.failures, WireFault::Receive))
             }
-            Err(error) if gave_nothing(error.kind()) => Ok(Received::Nothing),
-            Err(_) => {
+            FailedReceive::NothingCame => Ok(Received::Nothing),
+            FailedReceive::Faulty => {
                 thread::sleep(&self.clock, Duration::from_millis(FAULT_WAIT_MILLIS));
                 Ok(Received::Nothing)
             }
@@ -150,10 +176,33 @@ impl<C: Clock + Drop> Wire for LastingWire<C> {
     }
 }
 
+// What an error of a receive says.
+#[derive(Clone, Copy)]
+enum FailedReceive {
+    // No socket is there any more.
+    SocketGone,
+    // No datagram came.
+    NothingCame,
+    // The socket is there, and at fault.
+    Faulty,
+}
+
+// What an error of a receive says.
+fn failed_by(error: &io::Error) -> FailedReceive
+    ensures { result ≡ failed_by (raw_os_error error.now) (error_kind error.now) }
+{
+    if is_gone(error) {
+        FailedReceive::SocketGone
+    } else if gave_nothing(error.kind()) {
+        FailedReceive::NothingCame
+    } else {
+        FailedReceive::Faulty
+    }
+}
+
 // Whether an error says that the socket is gone.
 fn is_gone(error: &io::Error) -> bool
-    ensures yes { result ≡ true → IsGone (raw_os_error error.now) }
-    ensures no { result ≡ false → IsGone (raw_os_error error.now) → ⊥ }
+    ensures { result ≡ is_gone (raw_os_error error.now) }
 {
     matches!(error.raw_os_error(), Some(EBADF | ENOTSOCK | EOPNOTSUPP))
 }

@@ -1,5 +1,7 @@
 //! The sockets by which frames go to the peers of ports.
 ghost use Rattle.std.specs.Prelude.{◌≡◌};
+ghost use Rattle.std.specs.BTreeMap.{get};
+ghost use Rattle.std.specs.Option.{unwrap_or};
 
 use crate::losses::{Losses, cause_of};
 use std::alloc::Global;
@@ -40,11 +42,18 @@ impl SendingSockets {
         &self.losses
     }
 
+    // The socket by which a datagram goes to a peer: the peer's own, or where it has none, this one.
+    fn socket_of<'s>(&'s self, peer: SocketAddr, other: &'s UdpSocket) -> &'s UdpSocket
+        ensures { result.now
+            ≡ unwrap_or (get ⟦<SocketAddr as Ord>⟧.cmp self.now.by_peer peer) other.now }
+    {
+        self.by_peer.get(&peer).unwrap_or(other)
+    }
+
     /// Sends a datagram to a peer: by the peer's own socket, or where it has none, by this one. Where
     /// the system refuses it, it is lost and counted.
     pub(crate) fn send(&self, other: &UdpSocket, peer: SocketAddr, octets: &[u8]) {
-        let socket = self.by_peer.get(&peer).unwrap_or(other);
-        if let Err(error) = socket.send_to(octets, peer) {
+        if let Err(error) = self.socket_of(peer, other).send_to(octets, peer) {
             self.losses.add(cause_of(&error));
         }
     }

@@ -1,4 +1,7 @@
 //! A wire over a UDP socket.
+ghost use Rattle.std.specs.Prelude.{◌≡◌};
+ghost use Rattle.wire_core.specs.Receiving.{gave_nothing};
+
 use crate::wire::{Received, Wire, WireFault, count_failure};
 use std::alloc::Global;
 use std::io;
@@ -87,7 +90,9 @@ impl Wire for UdpWire {
 
 // Whether a read that ended so only gave nothing: its time ran out, a signal came, or a peer
 // refused an earlier datagram (an ICMP answer, which reports nothing of this socket's own state).
-pub(crate) fn gave_nothing(kind: ErrorKind) -> bool {
+pub(crate) fn gave_nothing(kind: ErrorKind) -> bool
+    ensures { result ≡ gave_nothing kind }
+{
     matches!(
         kind,
         ErrorKind::WouldBlock
