@@ -37,7 +37,7 @@ impl Write for Sharing<'_> {
                 self.failing = None;
                 return Err(io::Error::from(ErrorKind::BrokenPipe));
             }
-            Some(writes) => self.failing = Some(writes - 1),
+            Some(writes) => self.failing = Some(writes.saturating_sub(1)),
             None => {}
         }
         let octets = buf.len().min(self.most);
@@ -131,7 +131,7 @@ fn lost_lines_of_the_log_are_reported(rt: HostRuntime) -> Result<(), Fail> {
     let kept = MAX_LOG_OCTETS / 49;
     let report = format!(in rt.alloc(); "[WARN  line_output] {} log lines lost\n", 6_000 - kept)?;
     let written = file.into_inner();
-    assert_eq!(rt; written.len(), kept * 49 + report.len());
+    assert_eq!(rt; written.len(), (kept * 49).saturating_add(report.len()));
     assert!(rt; written.ends_with(report.as_bytes()));
     Ok(())
 }
