@@ -117,14 +117,20 @@ pub fn serve_opened<'r, M: MibObject + Send, R: Threads + Wait + Net + Clock + S
 
 /// The same without an end, by an agent of this version: each line begins its rounds anew when they
 /// are done, and a second after its socket failed or there was no memory, until no number is left for
-/// an entry. It is logged what is served, and how the lines go on. Each worker has such a gate, by
+/// an entry. It is logged by this log what is served, and how the lines go on. Each worker has such a gate, by
 /// which its requests are audited or not. Where a control socket is handed in, an operator's commands are
 /// taken at it. All lines are tasks of this start.
 ///
 /// # Errors
 /// As of [`udp_agent::serve_forever`]; also that there was no memory for the history.
-pub fn serve_opened_forever<'r, M: MibObject + Send, R: Threads + Wait + Net + Clock + Log + Sync>(
+pub fn serve_opened_forever<
+    'r,
+    M: MibObject + Send,
+    G: Log + Sync,
+    R: Threads + Wait + Net + Clock + Sync,
+>(
     rt: &'r R,
+    log: &'r G,
     alloc: Global,
     version: &str,
     registry: Registry<M>,
@@ -139,13 +145,14 @@ pub fn serve_opened_forever<'r, M: MibObject + Send, R: Threads + Wait + Net + C
         ⟦<LastingWire<&'r R> as Wire>⟧.went ⟦<LastingWire<&'r R> as Wire>⟧.failures
         ⟦<LastingTicker<&'r R> as PacedWire>⟧.did ⟦<LastingTicker<&'r R> as Wire>⟧.failures
         ⟦<LastingControl<&'r R> as ControlWire>⟧.did
-        ⟦<Reporter<'r, R> as Watch>⟧.went ⟦<SecondPace<&'r R> as Pace>⟧.went
+        ⟦<Reporter<'r, G> as Watch>⟧.went ⟦<SecondPace<&'r R> as Pace>⟧.went
         is_audited_worker opened.setup (is_audited audits.now) (is_some control.entry)
         (fresh registry opened.world 0) result }
 {
     let kept = begin(alloc, registry, opened.world)?;
     udp_agent::serve_forever(
         rt,
+        log,
         alloc,
         version,
         &opened.setup,

@@ -16,8 +16,8 @@
 //! # Not claimed
 //! That the words are those of the command line, that the objects that `main` makes are the 57 of
 //! `object_list`, which driver stands under dot1dStpPortEnable, that what is left to be served is
-//! served, at which path a control socket is made, that the task which writes audits reports its begin, the
-//! status then, and what is logged. What a file of the system holds and a terminal
+//! served, at which path a control socket is made, that the task which writes the log and the audits reports
+//! its begin, the status then, and what is logged. What a file of the system holds and a terminal
 //! shows.
 #![tactic(auto)]
 
@@ -28,19 +28,21 @@ use agent_program::{
 use agent_words::{Asked, Lasting, VERSION, asks_to_serve, read_words};
 use bridge_mib::{Planned, PortEnable, Steady};
 use control_socket::{ControlFault, ControlSocket, bind_control};
-use live_audit::{AuditBacklog, Auditing, QueuedAudits, audit_queue, write_audits};
+use line_output::{Descriptor, LineQueue, LinesInHand, QueuedLog, takes_octets, write_lines};
+use live_audit::{Auditing, QueuedAudits};
 use log::Log;
 use object_list::{COLUMNS, ColumnDescriptor, ENABLE, PlainObject};
 use setphase_core::{MibObject, Registry};
-use std::alloc::Global;
+use std::alloc::{AllocError, Global};
 use std::fmt::Display;
 use std::net::Net;
+use std::os::unix::fs::MetadataExt;
 use std::process::ExitCode;
 use std::rt::Files;
 use std::sync::{Arc, Wait};
 use std::thread::{Threads, join};
 use std::time::Clock;
-use std::{env, io};
+use std::{env, fs, io};
 use udp_agent::{any_failed, log_not_begun, log_report, report_fault};
 use wire_core::{Startup, TaskStart};
 
@@ -108,22 +110,42 @@ where
     M: MibObject + Send,
     I: io::Read,
     O: io::Write + Send,
-    E: io::Write,
+    E: io::Write + Send,
     R: Threads + Wait + Net + Files + Clock + Log + Sync,
 {
     let (ended, left) = run_asked(alloc, files, objects, asked, reader, writer, errors);
     let Some((registry, opened, lasting)) = left else {
         return ExitCode::from(ended.status);
     };
-    let done = match lasting {
-        Lasting::Rounds => serve_rounds(rt, alloc, registry, opened),
+    match lasting {
+        Lasting::Rounds => match serve_rounds(rt, alloc, registry, opened) {
+            Ok(()) => ExitCode::SUCCESS,
+            Err(failure) => failed(&failure, errors),
+        },
         Lasting::Forever { audit, control } => {
-            serve_lasting(rt, alloc, registry, opened, audit, control, writer)
+            let asked = (audit, control);
+            match serve_lasting(rt, alloc, registry, opened, asked, writer, errors) {
+                Ok(()) => ExitCode::SUCCESS,
+                Err(failure) => failed_lasting(&failure, errors),
+            }
         }
-    };
-    match done {
-        Ok(()) => ExitCode::SUCCESS,
-        Err(failure) => failed(&failure, errors),
+    }
+}
+
+// The numbers of standard output and standard error.
+const STANDARD_OUTPUT: i32 = 1;
+
+const STANDARD_ERROR: i32 = 2;
+
+// How long standard error is waited for at the end of an agent without an end, in milliseconds: 1,000.
+const LAST_WAIT_MILLIS: u16 = 1000;
+
+// Reports a failure if standard error takes a line, and gives its exit status in any case.
+fn failed_lasting<E: io::Write>(failure: &Failure<'_>, errors: &mut E) -> ExitCode {
+    if takes_octets(STANDARD_ERROR, LAST_WAIT_MILLIS) {
+        failed(failure, errors)
+    } else {
+        ExitCode::from(failure.status())
     }
 }
 
@@ -146,40 +168,95 @@ fn serve_rounds<M: MibObject + Send, R: Threads + Wait + Net + Clock + Log + Syn
     }
 }
 
-// Serves without an end, with a control socket at this path, if there is one, and audited or not.
-fn serve_lasting<M, O, R>(
+// Serves without an end, audited or not, and with a control socket at a path, if there is one: a thread of
+// its own, which reports that it has begun, writes the log and the audits, so that nothing else waits for an
+// output.
+fn serve_lasting<M, O, E, R>(
     rt: &R,
     alloc: Global,
     registry: Registry<M>,
     opened: Opened,
-    audit: bool,
-    path: Option<&str>,
+    asked: (bool, Option<&str>),
     writer: &mut O,
+    errors: &mut E,
 ) -> Result<(), Failure<'static>>
 where
     M: MibObject + Send,
     O: io::Write + Send,
+    E: io::Write + Send,
     R: Threads + Wait + Net + Files + Clock + Log + Sync,
 {
-    let startup = match Arc::new(alloc, Startup::new()) {
-        Ok(startup) => startup,
-        Err(why) => return not_begun(rt, &io::Error::from(why)),
+    let (audit, path) = asked;
+    let (queue, startup, mut hand) = match lasting_parts(rt, alloc) {
+        Ok(parts) => parts,
+        Err(why) => return not_begun_at_once(rt, &io::Error::from(why)),
     };
-    let control = match bind_path(rt, path, &startup) {
-        Ok(control) => control,
-        Err(why) => return not_begun(rt, &why),
+    let log = QueuedLog::new(rt, alloc, &queue);
+    let (queue, startup, log) = (&queue, &startup, &log);
+    let mut output = Descriptor::new(STANDARD_OUTPUT, writer);
+    let mut error = Descriptor::new(STANDARD_ERROR, errors);
+    let audits = auditing(alloc, queue, audit);
+    // Where no thread can be made, the agent is served here until its start has failed, and what waits is
+    // written behind that.
+    let ((), served) = join(
+        rt,
+        || {
+            startup.report(rt);
+            write_lines(rt, alloc, queue, &mut hand, &mut output, &mut error)
+        },
+        move || {
+            let served = serve_bound(rt, log, alloc, registry, opened, &audits, path, startup);
+            queue.close(rt);
+            served
+        },
+    );
+    served
+}
+
+// What the tasks of an agent without an end share, and the lines in the hand of the one that writes.
+fn lasting_parts<R: Files>(
+    rt: &R,
+    alloc: Global,
+) -> Result<(LineQueue, Arc<Startup, Global>, LinesInHand), AllocError> {
+    Ok((
+        LineQueue::new(alloc)?,
+        Arc::new(alloc, Startup::new())?,
+        LinesInHand::new(alloc, may_be_one_file(rt))?,
+    ))
+}
+
+// Whether standard output and standard error may be one file: they count as one where the system does not
+// say.
+fn may_be_one_file<F: Files>(files: &F) -> bool {
+    let (Ok(output), Ok(error)) = (
+        fs::metadata(files, "/proc/self/fd/1"),
+        fs::metadata(files, "/proc/self/fd/2"),
+    ) else {
+        return true;
     };
+    output.dev() == error.dev() && output.ino() == error.ino()
+}
+
+// Whether requests are audited, and by which queue their lines go.
+fn auditing<'q>(alloc: Global, queue: &'q LineQueue, audit: bool) -> Auditing<'q> {
     if audit {
-        serve_audited(rt, alloc, registry, opened, control, &startup, writer)
+        Auditing::On(QueuedAudits::new(alloc, queue))
     } else {
-        let audits = Auditing::Off;
-        serve_forever(rt, alloc, registry, opened, &audits, control, &startup)
+        Auditing::Off
     }
 }
 
 // Nothing was served: logs why.
-fn not_begun<R: Log, E: Display>(rt: &R, why: &E) -> Result<(), Failure<'static>> {
-    log_not_begun(rt, why);
+fn not_begun<G: Log, E: Display>(log: &G, why: &E) -> Result<(), Failure<'static>> {
+    log_not_begun(log, why);
+    Err(Failure::Run)
+}
+
+// The same ahead of the task that writes the log: logs why if standard error takes a line.
+fn not_begun_at_once<G: Log, E: Display>(log: &G, why: &E) -> Result<(), Failure<'static>> {
+    if takes_octets(STANDARD_ERROR, LAST_WAIT_MILLIS) {
+        log_not_begun(log, why);
+    }
     Err(Failure::Run)
 }
 
@@ -198,58 +275,52 @@ fn bind_path<'r, R: Net + Files>(
     }
 }
 
-// The same as `serve_forever`, where the audit of each request is written, by a thread of its own, which
-// reports that it has begun.
-fn serve_audited<'r, M, O, R>(
+// Serves without an end, with a control socket at this path, if there is one, and logs how the lines go on,
+// or why nothing was served.
+fn serve_bound<'r, M, G, R>(
     rt: &'r R,
+    log: &'r G,
     alloc: Global,
     registry: Registry<M>,
     opened: Opened,
-    control: Option<ControlSocket<&'r R>>,
+    audits: &Auditing<'r>,
+    path: Option<&str>,
     startup: &Arc<Startup, Global>,
-    writer: &mut O,
 ) -> Result<(), Failure<'static>>
 where
     M: MibObject + Send,
-    O: io::Write + Send,
-    R: Threads + Wait + Net + Clock + Log + Sync,
+    G: Log + Sync,
+    R: Threads + Wait + Net + Files + Clock + Sync,
 {
-    let (offered, lines) = match audit_queue(alloc) {
-        Ok(ends) => ends,
-        Err(why) => return not_begun(rt, &io::Error::from(why)),
-    };
-    let backlog = AuditBacklog::new();
-    let audits = Auditing::On(QueuedAudits::new(alloc, offered, &backlog));
-    // Where no thread can be made, the agent is served here until its start has failed, and what waits is
-    // written behind that.
-    let ((), served) = join(
-        rt,
-        || {
-            startup.report(rt);
-            write_audits(rt, alloc, &lines, writer, &backlog)
-        },
-        move || serve_forever(rt, alloc, registry, opened, &audits, control, startup),
-    );
-    served
+    match bind_path(rt, path, startup) {
+        Ok(control) => serve_forever(rt, log, alloc, registry, opened, audits, control, startup),
+        Err(why) => not_begun(log, &why),
+    }
 }
 
 // Serves without an end, and logs how the lines go on, or why nothing was served, also where a task of this
 // start had not begun in time. It has failed then, or where all lines have ended and one of them failed.
-fn serve_forever<'r, M: MibObject + Send, R: Threads + Wait + Net + Clock + Log + Sync>(
+fn serve_forever<'r, M, G, R>(
     rt: &'r R,
+    log: &'r G,
     alloc: Global,
     registry: Registry<M>,
     opened: Opened,
     audits: &Auditing<'r>,
     control: Option<ControlSocket<&'r R>>,
     startup: &Arc<Startup, Global>,
-) -> Result<(), Failure<'static>> {
+) -> Result<(), Failure<'static>>
+where
+    M: MibObject + Send,
+    G: Log + Sync,
+    R: Threads + Wait + Net + Clock + Sync,
+{
     match serve_opened_forever(
-        rt, alloc, VERSION, registry, opened, audits, control, startup,
+        rt, log, alloc, VERSION, registry, opened, audits, control, startup,
     ) {
         Ok(ends) if any_failed(ends.as_slice()) => Err(Failure::Run),
         Ok(_) => Ok(()),
-        Err(why) => not_begun(rt, &why),
+        Err(why) => not_begun(log, &why),
     }
 }
 

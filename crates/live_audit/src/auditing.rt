@@ -1,41 +1,40 @@
 //! A gate of a worker that may be asked for audits.
-ghost use Rattle.std.specs.Prelude.{◌≡◌, ◌↔◌, IsTrue, IsSome, IfOk};
+ghost use Rattle.std.specs.Prelude.{◌≡◌, ◌↔◌, IsTrue, IsSome};
 ghost use Rattle.live_audit.specs.Audited.{is_audited};
 
-use crate::backlog::AuditBacklog;
 use crate::queue::QueuedAudits;
 use audit_core::Audit;
+use line_output::LineQueue;
 use live_agent::{AnsweredRequest, Gate};
-use std::alloc::AllocError;
 use std::sync::Wait;
 
 /// Whether the requests of a worker are audited.
 #[derive(Drop)]
-pub enum Auditing<'b> {
+pub enum Auditing<'q> {
     /// No line is made.
     Off,
     /// The line of each is offered to a queue.
-    On(QueuedAudits<'b>),
+    On(QueuedAudits<'q>),
 }
 
-impl<'b> Auditing<'b> {
-    /// What the workers and the task that writes share, where the requests are audited.
-    pub fn backlog(&self) -> Option<&'b AuditBacklog>
+impl<'q> Auditing<'q> {
+    /// The queue that the lines are offered to, where the requests are audited.
+    pub fn queue(&self) -> Option<&'q LineQueue>
         ensures { IsTrue (is_audited self.now) ↔ IsSome result }
     {
         match self {
             Auditing::Off => None,
-            Auditing::On(audits) => Some(audits.backlog()),
+            Auditing::On(audits) => Some(audits.queue()),
         }
     }
 
     /// The same for another worker.
-    pub fn another(&self) -> Result<Auditing<'b>, AllocError>
-        ensures { IfOk result (λ other. is_audited other ≡ is_audited self.now) }
+    pub fn another(&self) -> Auditing<'q>
+        ensures { is_audited result ≡ is_audited self.now }
     {
         match self {
-            Auditing::Off => Ok(Auditing::Off),
-            Auditing::On(audits) => Ok(Auditing::On(audits.another()?)),
+            Auditing::Off => Auditing::Off,
+            Auditing::On(audits) => Auditing::On(audits.another()),
         }
     }
 }

@@ -1,66 +1,34 @@
 //! A gate that offers the lines of its requests to a queue.
 
-use crate::backlog::AuditBacklog;
 use crate::line::audited_line;
 use audit_core::Audit;
-use crossbeam_channel::{Receiver, Sender, bounded};
+use line_output::LineQueue;
 use live_agent::{AnsweredRequest, Gate};
 use std::alloc::{AllocError, Global};
 use std::sync::Wait;
 
-/// How many lines wait in the queue at most: 8,192. They take up to 256 KiB for the queue itself, and
-/// the memory of their octets, of which at most `MAX_WAITING_OCTETS` wait.
-pub const MAX_WAITING_LINES: usize = 8_192;
-
-/// The two ends of a queue of lines: workers offer lines to the one, and the task that writes takes
-/// them from the other. Takes the memory of [`MAX_WAITING_LINES`], but not that of their octets.
-pub fn audit_queue(alloc: Global) -> Result<(Sender<String>, Receiver<String>), AllocError> {
-    bounded(alloc, MAX_WAITING_LINES)
-}
-
-/// A gate that offers the line of each request to a queue, and never waits for space there. Where the
-/// queue is full or closed, or there is no memory for the line, the line is lost and counted.
+/// A gate that offers the line of each request to a queue, and never waits for an output. Where the queue
+/// has no space for the line, or there is no memory for it, the line is lost and counted.
 #[derive(Drop)]
-pub struct QueuedAudits<'b> {
+pub struct QueuedAudits<'q> {
     alloc: Global,
-    lines: Sender<String>,
-    backlog: &'b AuditBacklog,
+    queue: &'q LineQueue,
 }
 
-impl<'b> QueuedAudits<'b> {
+impl<'q> QueuedAudits<'q> {
     /// A gate that offers its lines to this queue.
-    pub fn new(
-        alloc: Global,
-        lines: Sender<String>,
-        backlog: &'b AuditBacklog,
-    ) -> QueuedAudits<'b> {
-        QueuedAudits {
-            alloc,
-            lines,
-            backlog,
-        }
+    pub fn new(alloc: Global, queue: &'q LineQueue) -> QueuedAudits<'q> {
+        QueuedAudits { alloc, queue }
     }
 
-    /// What the gates of the queue and the task that writes share.
-    pub fn backlog(&self) -> &'b AuditBacklog {
-        self.backlog
+    /// The queue.
+    pub fn queue(&self) -> &'q LineQueue {
+        self.queue
     }
 
     /// Another gate of the same queue, for another worker.
-    pub fn another(&self) -> Result<QueuedAudits<'b>, AllocError> {
-        let lines = self.lines.clone()?;
-        Ok(QueuedAudits::new(self.alloc, lines, self.backlog))
-    }
-
-    // Offers a line, or counts it as lost.
-    fn offer<R: Wait>(&self, rt: &R, line: String) {
-        let octets = line.len();
-        if !self.backlog.enter(rt, octets) {
-            self.backlog.lose(rt, 1);
-        } else if self.lines.try_send(rt, line).is_err() {
-            self.backlog.leave(rt, octets);
-            self.backlog.lose(rt, 1);
-        }
+    pub fn another(&self) -> QueuedAudits<'q> {
+        QueuedAudits::new(self.alloc, self.queue)
     }
 }
 
@@ -75,8 +43,8 @@ impl Gate for QueuedAudits<'_> {
 
     fn after<R: Wait>(&mut self, rt: &R, _worker: usize, request: AnsweredRequest, audit: &Audit) {
         match audited_line(self.alloc, request, audit) {
-            Ok(line) => self.offer(rt, line),
-            Err(AllocError) => self.backlog.lose(rt, 1),
+            Ok(line) => self.queue.offer_audit(rt, &line),
+            Err(AllocError) => self.queue.lose_audits(rt, 1),
         }
     }
 }

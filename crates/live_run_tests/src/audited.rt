@@ -2,14 +2,16 @@
 use crate::support::{MANAGER, loopback};
 use audit_core::{Audit, DeniedBindings, Unrestored};
 use decision::Decision;
+use line_output::{LineQueue, LinesInHand, MAX_AUDIT_OCTETS, Outlet, write_lines};
 use live_agent::{AnsweredRequest, Gate};
-use live_audit::{AuditBacklog, MAX_WAITING_LINES, QueuedAudits, audit_queue, write_audits};
+use live_audit::QueuedAudits;
 use message_core::{ErrorStatus, Kind};
 use std::alloc::Global;
 use std::io;
 use std::io::{ErrorKind, Write};
 use std::sync::Wait;
 use std::test::Fail;
+use std::time::Clock;
 
 // The audit of a request that has no variable bindings.
 fn audit_of_nothing(alloc: Global) -> Audit {
@@ -32,19 +34,29 @@ fn answered(number: u64) -> AnsweredRequest {
     }
 }
 
-// An output that fails at its first write, and keeps what it takes behind that.
+// An output that fails at so many writes, and keeps what it takes behind these.
 #[derive(Drop)]
-struct FailingOnce {
-    has_failed: bool,
+struct Recorder {
+    failures: u8,
     taken: Vec<u8>,
 }
 
-impl Write for FailingOnce {
+impl Recorder {
+    // One that fails at so many writes.
+    fn failing(alloc: Global, failures: u8) -> Recorder {
+        Recorder {
+            failures,
+            taken: Vec::new(alloc),
+        }
+    }
+}
+
+impl Write for Recorder {
     fn write(&mut self, buf: &[u8]) -> io::Result<usize> {
-        if self.has_failed {
+        if self.failures == 0 {
             return self.taken.write(buf);
         }
-        self.has_failed = true;
+        self.failures -= 1;
         Err(io::Error::from(ErrorKind::BrokenPipe))
     }
 
@@ -53,33 +65,40 @@ impl Write for FailingOnce {
     }
 }
 
-// Offers the lines of so many requests to a queue, and writes those that wait there; gives how many
-// were lost.
-fn written<W: Write, R: Wait>(
+impl Outlet for Recorder {
+    fn is_ready(&self, _millis: u16) -> bool {
+        true
+    }
+}
+
+// Offers the lines of so many requests to a queue, and writes those that wait there to this output; gives how
+// many were lost.
+fn written<R: Wait + Clock>(
     rt: &R,
     alloc: Global,
     requests: u64,
-    out: &mut W,
+    audits: &mut Recorder,
 ) -> Result<u64, Fail> {
-    let backlog = AuditBacklog::new();
-    let (offered, lines) = audit_queue(alloc)?;
-    let mut gate = QueuedAudits::new(alloc, offered, &backlog);
+    let queue = LineQueue::new(alloc)?;
+    let mut gate = QueuedAudits::new(alloc, &queue);
     let audit = audit_of_nothing(alloc);
     for number in 0..requests {
         gate.before(rt, 0);
         gate.after(rt, 0, answered(number), &audit);
     }
-    drop(gate);
-    write_audits(rt, alloc, &lines, out, &backlog);
-    Ok(backlog.take_lost(rt))
+    queue.close(rt);
+    let mut log = Recorder::failing(alloc, 0);
+    let mut hand = LinesInHand::new(alloc, false)?;
+    write_lines(rt, alloc, &queue, &mut hand, audits, &mut log);
+    Ok(queue.take_lost_audits(rt))
 }
 
 #[test]
 fn lines_that_are_offered_are_written_in_order(rt: HostRuntime) -> Result<(), Fail> {
-    let mut out: Vec<u8> = Vec::new(rt.alloc());
+    let mut out = Recorder::failing(rt.alloc(), 0);
     let lost = written(&rt, rt.alloc(), 2, &mut out)?;
     assert_eq!(rt;
-        (out.as_slice(), lost),
+        (out.taken.as_slice(), lost),
         (
             &b"0 127.0.0.1:30001 -7 get 0 0 empty\n1 127.0.0.1:30001 -7 get 0 0 empty\n"[..],
             0
@@ -88,21 +107,40 @@ fn lines_that_are_offered_are_written_in_order(rt: HostRuntime) -> Result<(), Fa
     Ok(())
 }
 
+// How many octets the lines of so many requests have.
+fn octets_of(requests: u64) -> usize {
+    (0..requests)
+        .map(|number| answered_octets(number))
+        .fold(0, |all: usize, octets| all.saturating_add(octets))
+}
+
+// How many octets the line of the request of this number has.
+fn answered_octets(number: u64) -> usize {
+    let digits = match number {
+        0..=9 => 1,
+        10..=99 => 2,
+        100..=999 => 3,
+        1000..=9999 => 4,
+        _ => 5,
+    };
+    digits + 34
+}
+
 #[test]
-fn lines_beyond_the_queue_are_lost(rt: HostRuntime) -> Result<(), Fail> {
-    let mut out: Vec<u8> = Vec::new(rt.alloc());
-    let lost = written(&rt, rt.alloc(), MAX_WAITING_LINES as u64 + 3, &mut out)?;
-    let feeds = out.iter().filter(|octet| **octet == b'\n').count();
-    assert_eq!(rt; (feeds, lost), (MAX_WAITING_LINES, 3));
+fn lines_beyond_the_space_are_lost(rt: HostRuntime) -> Result<(), Fail> {
+    let mut out = Recorder::failing(rt.alloc(), 0);
+    let lost = written(&rt, rt.alloc(), 60_000, &mut out)?;
+    let lines = out.taken.iter().filter(|octet| **octet == b'\n').count() as u64;
+    assert_eq!(rt; lines.saturating_add(lost), 60_000);
+    assert_eq!(rt; out.taken.len(), octets_of(lines));
+    assert!(rt; out.taken.len() <= MAX_AUDIT_OCTETS);
+    assert!(rt; octets_of(lines.saturating_add(1)) > MAX_AUDIT_OCTETS);
     Ok(())
 }
 
 #[test]
 fn lines_of_a_write_that_fails_are_lost(rt: HostRuntime) -> Result<(), Fail> {
-    let mut out = FailingOnce {
-        has_failed: false,
-        taken: Vec::new(rt.alloc()),
-    };
+    let mut out = Recorder::failing(rt.alloc(), 1);
     assert_eq!(rt; written(&rt, rt.alloc(), 3, &mut out)?, 3);
     assert_eq!(rt; written(&rt, rt.alloc(), 1, &mut out)?, 0);
     assert_eq!(rt;

@@ -33,8 +33,7 @@ abbrev pub one_where : Bool → ℕ
 one_where true = 1
 one_where false = 0
 
--- The tasks of an agent without an end: its workers, its ports, its clock, and where there is one, the
--- task that writes audits, and the line of the control socket.
-abbrev pub tasks_of : ℕ → ℕ → Bool → Bool → ℕ
-tasks_of workers ports audited controlled =
-    workers + ports + 1 + one_where audited + one_where controlled
+-- The tasks of an agent without an end: its workers, its ports, its clock, the task that writes the log and
+-- the audits, and where there is one, the line of the control socket.
+abbrev pub tasks_of : ℕ → ℕ → Bool → ℕ
+tasks_of workers ports controlled = workers + ports + 2 + one_where controlled

@@ -6,7 +6,7 @@ ghost use Rattle.udp_agent.specs.Lasting.{is_failure, is_any_failure, IsServingF
 
 use crate::binding::plan_of;
 use crate::lasting_binding::{LastingControl, LastingWorker, bind_lasting, control_wire};
-use crate::ready::log_ready;
+use crate::ready::{log_limit, log_ready, widen_requests};
 use crate::reporting::Reporter;
 use crate::setup::Setup;
 use control_socket::ControlSocket;
@@ -90,15 +90,15 @@ pub fn serve_lines_forever<
     answer
 }
 
-// How many tasks these lines are, with the task that writes audits and the line of the control socket,
-// where there are such.
-fn tasks_of<A, W, T>(lines: &Lines<A, W, T>, is_audited: bool, is_controlled: bool) -> u64
+// How many tasks these lines are, with the task that writes the log and the audits, and the line of the
+// control socket, where there is one.
+fn tasks_of<A, W, T>(lines: &Lines<A, W, T>, is_controlled: bool) -> u64
     requires few { (vec_len lines.now.workers < 2 ^ 16 - 1) × (vec_len lines.now.ports < 2 ^ 16 - 1) }
     ensures { result
-        ≡ tasks_of (vec_len lines.now.workers) (vec_len lines.now.ports) is_audited is_controlled }
+        ≡ tasks_of (vec_len lines.now.workers) (vec_len lines.now.ports) is_controlled }
 {
     let (workers, ports) = (lines.workers.len() as u64, lines.ports.len() as u64);
-    workers + ports + 1 + u64::from(is_audited) + u64::from(is_controlled)
+    workers + ports + 2 + u64::from(is_controlled)
 }
 
 // Nothing, unless the start has failed.
@@ -113,8 +113,8 @@ fn refuse_failed(has_failed: bool) -> io::Result<()>
     }
 }
 
-/// Serves an agent of this version over UDP without an end: binds the sockets of a setup, logs what it
-/// serves, and runs its lines over a history as [`serve_lines_forever`] does. No send of theirs fails:
+/// Serves an agent of this version over UDP without an end: binds the sockets of a setup, logs by this log
+/// what it serves, and runs its lines over a history as [`serve_lines_forever`] does. No send of theirs fails:
 /// a datagram that the system refuses is lost. A line waits for a second behind a fault of its socket
 /// or want of memory, and begins anew. At the end of each interval of the ticker it logs what all did so
 /// far, and what was lost; where a fault ended an interval, and where a line ends, why. Each worker has
@@ -122,16 +122,22 @@ fn refuse_failed(has_failed: bool) -> io::Result<()>
 /// operator's commands are taken at it, and it is logged what became of each; what the ports send of them
 /// goes as their frames do.
 ///
-/// All lines are tasks of this start, and with them the task that writes audits, which reports of itself.
-/// Where one had not begun within `STARTUP_WAIT_MILLIS`, as where the system makes no thread more, all
+/// All lines are tasks of this start, and with them the task that writes the log and the audits, which reports
+/// of itself. Where one had not begun within `STARTUP_WAIT_MILLIS`, as where the system makes no thread more, all
 /// lines end; a port whose first link finds no memory ends once it does.
 ///
 /// # Errors
 /// That of the system where a socket could not be bound, or that there was no memory for what the
 /// lines share, before any line ran; `TimedOut`, once all lines have ended, where a task had not begun in
 /// time; no clause says that.
-pub fn serve_forever<'r, O: MibObject + Send, R: Threads + Wait + Net + Clock + Log + Sync>(
+pub fn serve_forever<
+    'r,
+    O: MibObject + Send,
+    G: Log + Sync,
+    R: Threads + Wait + Net + Clock + Sync,
+>(
     rt: &'r R,
+    log: &'r G,
     alloc: Global,
     version: &str,
     setup: &Setup,
@@ -146,7 +152,7 @@ pub fn serve_forever<'r, O: MibObject + Send, R: Threads + Wait + Net + Clock + 
         ⟦<LastingWire<&'r R> as Wire>⟧.went ⟦<LastingWire<&'r R> as Wire>⟧.failures
         ⟦<LastingTicker<&'r R> as PacedWire>⟧.did ⟦<LastingTicker<&'r R> as Wire>⟧.failures
         ⟦<LastingControl<&'r R> as ControlWire>⟧.did
-        ⟦<Reporter<'r, R> as Watch>⟧.went ⟦<SecondPace<&'r R> as Pace>⟧.went
+        ⟦<Reporter<'r, G> as Watch>⟧.went ⟦<SecondPace<&'r R> as Pace>⟧.went
         is_audited_worker setup.now (is_audited audits.now) (is_some control.entry) kept result }
 {
     let plan = plan_of(alloc, setup)?;
@@ -155,19 +161,21 @@ pub fn serve_forever<'r, O: MibObject + Send, R: Threads + Wait + Net + Clock + 
         SendingSockets::bind(rt, alloc, plan.peers.as_slice())?,
     )?;
     let missed = Arc::new(alloc, MissedSeconds::new())?;
-    let pace = StartingPace::new(rt, TaskStart::new(startup)?, missed)?;
+    let pace = StartingPace::new(rt, TaskStart::new(startup)?, Arc::try_clone(&missed)?)?;
     let lines = bind_lasting(rt, rt, pace, alloc, setup, &sending, startup, audits)?;
     let control = control_wire(lines.ports.as_slice(), control)?;
-    let is_audited = audits.backlog().is_some();
-    log_ready(rt, version, setup, is_audited);
+    log_ready(log, version, setup, audits.queue().is_some());
+    log_limit(log);
+    widen_requests(log, lines.workers.as_slice());
     let book = WorkTotals::new();
     let watch = Reporter {
-        rt,
+        log,
         book: &book,
         losses: sending.losses(),
-        audits: audits.backlog(),
+        missed: &missed,
+        audits: audits.queue(),
     };
-    startup.expect(rt, tasks_of(&lines, is_audited, control.is_some()));
+    startup.expect(rt, tasks_of(&lines, control.is_some()));
     // Of want of memory `?` makes an error of the system.
     let ends = serve_lines_forever(rt, &plan, watch, SecondPace::new(rt), kept, lines, control)?;
     refuse_failed(startup.has_failed(rt))?;

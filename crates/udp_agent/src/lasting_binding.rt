@@ -42,7 +42,7 @@ fn worker_over<'b, C: Clock + Copy + Drop>(
 {
     Ok(Gated {
         wire: socket.share()?,
-        gate: audits.another()?,
+        gate: audits.another(),
     })
 }
 

@@ -9,7 +9,8 @@
 //! same without an end ([`serve_lines_forever`]), over lines of its own ([`bind_lasting`]) at which no
 //! send fails and whose workers may be audited (`live_audit`), and takes an operator's commands at a
 //! control socket, if it is handed one ([`LastingControl`]), logs what it serves ([`log_ready`]), and
-//! logs as it goes on, also what became of each command. Each of its tasks reports that it has begun
+//! logs as it goes on, also what became of each command, all by a log that it is handed: one that waits
+//! for no output (`line_output`). Each of its tasks reports that it has begun
 //! (`wire_core::Startup`); where one does not in time, all end. [`log_losses`] logs what could not be sent, [`any_failed`] says whether a line failed, [`log_not_begun`] logs why nothing
 //! was served.
 //!

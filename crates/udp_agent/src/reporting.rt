@@ -2,8 +2,8 @@
 use crate::commands::log_command;
 use crate::losses::log_losses;
 use crate::serving::ServeFault;
+use line_output::LineQueue;
 use live_agent::End;
-use live_audit::AuditBacklog;
 use live_control::ControlItem;
 use live_laps::{Drops, LineName, Watch, WorkTotals, Worked};
 use live_lock::Counts;
@@ -11,7 +11,7 @@ use live_run::{Report, RunFault};
 use log::{Log, error, info, warn};
 use std::fmt::Display;
 use std::sync::Wait;
-use wire_core::{Losses, WireFault};
+use wire_core::{Losses, MissedSeconds, WireFault};
 
 /// Logs what a run did, in one line of level Info: `entries E requests Q older O drops D`.
 pub fn log_report<R: Log>(rt: &R, report: &Report) {
@@ -46,27 +46,29 @@ pub fn log_not_begun<R: Log, E: Display>(rt: &R, why: &E) {
 /// Logs how lines go on, by this log: at the end of each interval of the ticker what all did so far, by
 /// the book of all lines, in a line of level Info as that of [`log_report`], and the drops by cause in
 /// another, with the requests of unknown communities and contexts that the world counts, and how many
-/// lines of audits were lost, if any were, in a line of level Warn; behind each command of an operator but
+/// seconds had no tick and how many lines of audits were lost, if any were, in a line of level Warn each; behind each command of an operator but
 /// one for the counts, what became of it; where a fault ended an interval, which line's and why, and how
 /// many there were so far, in a line of level Warn; where a line ends, which and why, in a line of level
 /// Error.
 #[derive(Drop)]
-pub struct Reporter<'r, R> {
+pub struct Reporter<'r, G> {
     /// By which it logs.
-    pub rt: &'r R,
+    pub log: &'r G,
     /// What all workers did in intervals.
     pub book: &'r WorkTotals,
     /// What could not be sent.
     pub losses: &'r Losses,
-    /// The lines of audits that wait, and those that were lost; none where none is asked for.
-    pub audits: Option<&'r AuditBacklog>,
+    /// The seconds that had no tick.
+    pub missed: &'r MissedSeconds,
+    /// The queue of the lines of audits, which counts those that were lost; none where none is asked for.
+    pub audits: Option<&'r LineQueue>,
 }
 
-impl<R: Log> Reporter<'_, R> {
+impl<G: Log> Reporter<'_, G> {
     // Logs how many datagrams and requests each cause dropped.
     fn log_drops(&self, drops: Drops, counts: Counts) {
         info!(
-            self.rt;
+            self.log;
             "drops TooLong {} Malformed {} BadVersion {} BadKind {} Memory {} UnknownCommunity {} NoSuchContext {}",
             drops.too_long,
             drops.malformed,
@@ -78,19 +80,27 @@ impl<R: Log> Reporter<'_, R> {
         );
     }
 
+    // Logs how many seconds had no tick since it was last logged, if any were.
+    fn log_missed(&self) {
+        let missed = self.missed.take();
+        if missed > 0 {
+            warn!(self.log; "{} seconds had no tick", missed);
+        }
+    }
+
     // Logs how many lines of audits were lost since it was last logged, if any were.
     fn log_lost_audits<S: Wait>(&self, rt: &S) {
         let Some(audits) = self.audits else {
             return;
         };
-        let lost = audits.take_lost(rt);
+        let lost = audits.take_lost_audits(rt);
         if lost > 0 {
-            warn!(self.rt; "{} audit lines lost", lost);
+            warn!(self.log; "{} audit lines lost", lost);
         }
     }
 }
 
-impl<R: Log> Watch for Reporter<'_, R> {
+impl<G: Log> Watch for Reporter<'_, G> {
     ghost went = { λ _ _ _. Unit };
 
     ghost starts = { λ _. tt };
@@ -99,9 +109,10 @@ impl<R: Log> Watch for Reporter<'_, R> {
 
     fn another(&self) -> Self {
         Reporter {
-            rt: self.rt,
+            log: self.log,
             book: self.book,
             losses: self.losses,
+            missed: self.missed,
             audits: self.audits,
         }
     }
@@ -111,7 +122,7 @@ impl<R: Log> Watch for Reporter<'_, R> {
     }
 
     fn commanded(&self, item: &ControlItem) {
-        log_command(self.rt, item);
+        log_command(self.log, item);
     }
 
     fn worked<S: Wait>(&mut self, rt: &S, worked: Worked) {
@@ -121,7 +132,7 @@ impl<R: Log> Watch for Reporter<'_, R> {
     fn ticked<S: Wait>(&mut self, rt: &S, counts: Counts) {
         let worked = self.book.read(rt);
         info!(
-            self.rt;
+            self.log;
             "entries {} requests {} older {} drops {}",
             counts.entries,
             worked.requests,
@@ -129,7 +140,8 @@ impl<R: Log> Watch for Reporter<'_, R> {
             worked.drops
         );
         self.log_drops(worked.by_cause, counts);
-        log_losses(self.rt, self.losses);
+        log_losses(self.log, self.losses);
+        self.log_missed();
         self.log_lost_audits(rt);
     }
 
@@ -139,14 +151,14 @@ impl<R: Log> Watch for Reporter<'_, R> {
             // Workers are counted from 0; people count from 1.
             LineName::Worker(number) => {
                 let number = number.saturating_add(1);
-                warn!(self.rt; "worker {}: {}, {} so far", number, why, faults)
+                warn!(self.log; "worker {}: {}, {} so far", number, why, faults)
             }
             LineName::Port(number) => {
-                warn!(self.rt; "port {}: {}, {} so far", number, why, faults)
+                warn!(self.log; "port {}: {}, {} so far", number, why, faults)
             }
-            LineName::Ticker => warn!(self.rt; "the clock: {}, {} so far", why, faults),
+            LineName::Ticker => warn!(self.log; "the clock: {}, {} so far", why, faults),
             LineName::Control => {
-                warn!(self.rt; "the control socket: {}, {} so far", why, faults)
+                warn!(self.log; "the control socket: {}, {} so far", why, faults)
             }
         }
     }
@@ -156,11 +168,11 @@ impl<R: Log> Watch for Reporter<'_, R> {
         match line {
             // Workers are counted from 0; people count from 1.
             LineName::Worker(number) => {
-                error!(self.rt; "worker {} ended: {}", number.saturating_add(1), why)
+                error!(self.log; "worker {} ended: {}", number.saturating_add(1), why)
             }
-            LineName::Port(number) => error!(self.rt; "port {} ended: {}", number, why),
-            LineName::Ticker => error!(self.rt; "the clock ended: {}", why),
-            LineName::Control => error!(self.rt; "the control socket ended: {}", why),
+            LineName::Port(number) => error!(self.log; "port {} ended: {}", number, why),
+            LineName::Ticker => error!(self.log; "the clock ended: {}", why),
+            LineName::Control => error!(self.log; "the control socket ended: {}", why),
         }
     }
 }
