@@ -93,6 +93,8 @@ impl<R: Log> Reporter<'_, R> {
 impl<R: Log> Watch for Reporter<'_, R> {
     ghost went = { λ _ _ _. Unit };
 
+    ghost reports = { λ _ _. Unit };
+
     ghost starts = { λ _. tt };
 
     ghost goes_on = { λ _ _ _ _ _ _ _. tt };
