@@ -1,4 +1,5 @@
 pub mod FileLemmas
 pub mod FrontLemmas
 pub mod OpeningLemmas
+pub mod ReadLemmas
 pub mod ReportingLemmas

@@ -2,17 +2,20 @@
 use Rattle.std.specs.Prelude.{◌≡◌, ◌⊎◌, ℕ, Bool, true, false, codes, if◌then◌else◌, List, [], ◌∷◌, Option, Some, None, Result, Ok, Err}
 use Rattle.agent_words.specs.Orders.{Command, counts, link, policy}
 use Rattle.control_socket.specs.Sent.{link_octets, policy_octets, is_refusal}
+use Rattle.agent_program.specs.declared.files.FileLimit.TheVariants as limit
 use Rattle.agent_program.specs.declared.files.NotRead.{NotRead}
-use Rattle.agent_program.specs.declared.files.NotRead.TheVariants.{Memory as FileMemory, Unreadable}
+use Rattle.agent_program.specs.declared.files.NotRead.TheVariants.{Memory as FileMemory, Unreadable, TooLarge as FileTooLarge}
 use Rattle.agent_program.specs.declared.failure.Failure.{Failure}
-use Rattle.agent_program.specs.declared.failure.Failure.TheVariants.{CannotRead, Unanswered, NotDone, Run as RunFailed}
+use Rattle.agent_program.specs.declared.failure.Failure.TheVariants.{CannotRead, TooLarge, Unanswered, NotDone, Run as RunFailed}
 use Rattle.agent_program.specs.Files.{IsReadOf}
 use Rattle.agent_program.specs.Reporting.{IsReported}
 
--- why there is no command by a file: there was no memory for its octets, or it cannot be read
+-- why there is no command by a file: there was no memory for its octets, it cannot be read, or it has too
+-- many of them
 abbrev pub policy_failure : NotRead → Failure
 policy_failure FileMemory = RunFailed
 policy_failure (Unreadable file) = CannotRead file
+policy_failure (FileTooLarge file limit) = TooLarge file limit
 
 -- how the program ends behind an answer that was printed so: an answer that refuses the command is a
 -- failure
@@ -70,7 +73,7 @@ module _ {O : Type 0} (Gives : List ℕ → Result (List ℕ) NotRead → Type 0
   pub record SendsFile (path file : List ℕ) (writer writer' : O) (ended : Result (Unit {0}) Failure)
       : Type 0 where
     pub read : Result (List ℕ) NotRead
-    pub is : IsReadOf Gives file read
+    pub is : IsReadOf Gives limit.Policy file read
     pub sends : SendsRead Answers contents path read writer writer' ended
 
   -- A command was sent to the agent whose control socket has this path. A link by which no port sends is

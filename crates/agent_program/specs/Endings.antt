@@ -9,14 +9,16 @@ use Rattle.agent_script.specs.declared.session.ScriptEnd.{ScriptEnd}
 use Rattle.agent_program.specs.declared.opening.NotRun.{NotRun}
 use Rattle.agent_program.specs.declared.opening.NotRun.TheVariants.{Refused as IsRefused, Memory, NoRegistry, Stopped}
 use Rattle.agent_program.specs.declared.files.NotRead.{NotRead}
-use Rattle.agent_program.specs.declared.files.NotRead.TheVariants.{Memory as FileMemory, Unreadable}
+use Rattle.agent_program.specs.declared.files.NotRead.TheVariants.{Memory as FileMemory, Unreadable, TooLarge as FileTooLarge}
+use Rattle.agent_program.specs.declared.files.FileLimit.{FileLimit}
+use Rattle.agent_program.specs.declared.files.FileLimit.TheVariants.{Configuration, Policy}
 use Rattle.agent_words.specs.declared.program.Answered.{Answered}
 use Rattle.agent_words.specs.declared.program.Answered.TheVariants.{Shown, NotShown, Refused as WordsRefused, Memory as WordsMemory}
 use Rattle.explain.specs.declared.questions.QuestionFault.{QuestionFault}
 use Rattle.explain.specs.declared.questions.QuestionFault.TheVariants.{Memory as NoQuestionMemory, Name}
 use Rattle.agent_program.specs.declared.reporting.NotTaken.{NotTaken}
 use Rattle.agent_program.specs.declared.failure.Failure.{Failure}
-use Rattle.agent_program.specs.declared.failure.Failure.TheVariants.{NotText, NoName, CannotRead, Refused, Input, Output, Unanswered, NotDone, Run as RunFailed}
+use Rattle.agent_program.specs.declared.failure.Failure.TheVariants.{NotText, NoName, CannotRead, TooLarge, Refused, Input, Output, Unanswered, NotDone, Run as RunFailed}
 
 -- the exit status: 2 for a word that is no text and for a configuration that cannot be read or is
 -- refused, 1 for what failed in a run
@@ -24,6 +26,7 @@ abbrev pub failure_status : Failure → ℕ
 failure_status NotText = 2
 failure_status (NoName word) = 2
 failure_status (CannotRead file) = 2
+failure_status (TooLarge file limit) = 2
 failure_status Refused = 2
 failure_status Input = 1
 failure_status Output = 1
@@ -40,6 +43,7 @@ abbrev pub failure_words : Failure → List ℕ
 failure_words NotText = codes "a word is no text"
 failure_words (NoName word) = codes "no object identifier: "
 failure_words (CannotRead file) = codes "cannot read "
+failure_words (TooLarge file limit) = codes "cannot read "
 failure_words Refused = codes "configuration refused"
 failure_words Input = codes "input failed"
 failure_words Output = codes "output failed"
@@ -51,6 +55,7 @@ abbrev pub failure_name : Failure → List ℕ
 failure_name NotText = []
 failure_name (NoName word) = word.now
 failure_name (CannotRead file) = file.now
+failure_name (TooLarge file limit) = file.now
 failure_name Refused = []
 failure_name Input = []
 failure_name Output = []
@@ -58,10 +63,28 @@ failure_name Unanswered = []
 failure_name NotDone = []
 failure_name RunFailed = []
 
--- its line
+-- the line that says of a file how many octets it may have
+abbrev pub limit_line : FileLimit → List ℕ
+limit_line Configuration = codes "agentd: it has more than 268435456 octets\n"
+limit_line Policy = codes "agentd: it has more than 65536 octets\n"
+
+-- what ends its first line, and the line that follows for a file with too many octets
+abbrev pub failure_rest : Failure → List ℕ
+failure_rest NotText = codes "\n"
+failure_rest (NoName word) = codes "\n"
+failure_rest (CannotRead file) = codes "\n"
+failure_rest (TooLarge file limit) = codes "\n" ++ limit_line limit
+failure_rest Refused = codes "\n"
+failure_rest Input = codes "\n"
+failure_rest Output = codes "\n"
+failure_rest Unanswered = codes "\n"
+failure_rest NotDone = codes "\n"
+failure_rest RunFailed = codes "\n"
+
+-- its line, and for a file with too many octets a second one
 abbrev pub failure_line : Failure → List ℕ
 failure_line failure =
-    codes "agentd: " ++ (failure_words failure ++ (failure_name failure ++ codes "\n"))
+    codes "agentd: " ++ (failure_words failure ++ (failure_name failure ++ failure_rest failure))
 
 -- what is stated on standard error
 abbrev pub stated_of : {A : Type 0} → Result A Failure → List ℕ
@@ -99,6 +122,7 @@ run_failure Given = RunFailed
 abbrev pub read_failure : NotRead → Failure
 read_failure FileMemory = Refused
 read_failure (Unreadable file) = CannotRead file
+read_failure (FileTooLarge file limit) = TooLarge file limit
 
 -- words that make no request, as a failure of the program
 abbrev pub question_failure : QuestionFault → Failure

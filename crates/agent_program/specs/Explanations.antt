@@ -11,6 +11,7 @@ use Rattle.explain.specs.Questions.{IsQuestion, IsFirstNoName}
 use Rattle.agent_words.specs.Asking.{Inquiry}
 use Rattle.agent_words.specs.declared.asked.Operation.{Operation}
 use Rattle.agent_words.specs.declared.asked.Operation.TheVariants.{Get, GetNext, Set}
+use Rattle.agent_program.specs.declared.files.FileLimit.TheVariants as limit
 use Rattle.agent_program.specs.declared.files.NotRead.{NotRead}
 use Rattle.agent_program.specs.declared.opening.NotRun.{NotRun}
 use Rattle.agent_program.specs.declared.failure.Failure.{Failure}
@@ -73,7 +74,7 @@ module _ {O : Type 0} (Gives : List ℕ → Result (List ℕ) NotRead → Type 0
   pub record ExplainsFile (request : Request) (file : List ℕ) (writer writer' : O)
       (ended : Result (Unit {0}) Failure) : Type 0 where
     pub read : Result (List ℕ) NotRead
-    pub is : IsReadOf Gives file read
+    pub is : IsReadOf Gives limit.Configuration file read
     pub explains : ExplainsRead contents request read writer writer' ended
 
   -- the words make this request, and it was explained by a file

@@ -3,6 +3,7 @@ use Rattle.std.specs.Prelude.{◌≡◌, ℕ, List, Option, None, Result, Ok, Er
 use Rattle.configuration.specs.declared.configuration.TheConstants.{BUILT_IN}
 use Rattle.setphase_core.specs.Objects.{ObjectState}
 use Rattle.agent_script.specs.declared.session.ScriptEnd.{ScriptEnd}
+use Rattle.agent_program.specs.declared.files.FileLimit.TheVariants as limit
 use Rattle.agent_program.specs.declared.files.NotRead.{NotRead}
 use Rattle.agent_program.specs.declared.opening.NotRun.{NotRun}
 use Rattle.agent_program.specs.declared.failure.Failure.{Failure}
@@ -67,7 +68,7 @@ module _ {I O : Type 0} (Gives : List ℕ → Result (List ℕ) NotRead → Type
   pub record RunsFile (file : List ℕ) (reader reader' : I) (writer writer' : O)
       (ended : Result (Unit {0}) Failure) : Type 0 where
     pub read : Result (List ℕ) NotRead
-    pub is : IsReadOf Gives file read
+    pub is : IsReadOf Gives limit.Configuration file read
     pub ran : RunsRead remaining contents objects read reader reader' writer writer' ended
 
   -- the program reported whether a file is a configuration, and read nothing else

@@ -10,10 +10,11 @@ use Rattle.configuration.specs.Sentences.{sentence}
 use Rattle.udp_agent.specs.Setups.{IsUnserved}
 use Rattle.udp_agent.specs.declared.setup.Unserved.{Unserved}
 use Rattle.udp_agent.specs.declared.setup.Unserved.TheVariants.{NoServe, NoSockets}
+use Rattle.agent_program.specs.declared.files.FileLimit.TheVariants as limit
 use Rattle.agent_program.specs.declared.files.NotRead.{NotRead}
-use Rattle.agent_program.specs.declared.files.NotRead.TheVariants.{Memory as FileMemory, Unreadable}
+use Rattle.agent_program.specs.declared.files.NotRead.TheVariants.{Memory as FileMemory, Unreadable, TooLarge as FileTooLarge}
 use Rattle.agent_program.specs.declared.failure.Failure.{Failure}
-use Rattle.agent_program.specs.declared.failure.Failure.TheVariants.{NotText, NoName, CannotRead, Refused, Input, Output, Unanswered, NotDone, Run as RunFailed}
+use Rattle.agent_program.specs.declared.failure.Failure.TheVariants.{NotText, NoName, CannotRead, TooLarge, Refused, Input, Output, Unanswered, NotDone, Run as RunFailed}
 use Rattle.agent_program.specs.Endings.{TakesFront}
 use Rattle.agent_program.specs.Files.{IsReadOf}
 
@@ -41,6 +42,7 @@ module _ {O : Type 0} (contents : O → Option (List ℕ)) where
   IsCutOff text writer writer' NotText = ⊥
   IsCutOff text writer writer' (NoName word) = ⊥
   IsCutOff text writer writer' (CannotRead file) = ⊥
+  IsCutOff text writer writer' (TooLarge file limit) = ⊥
   IsCutOff text writer writer' Refused = ⊥
   IsCutOff text writer writer' Input = ⊥
   IsCutOff text writer writer' Output = TakesFront (contents writer) (contents writer') text
@@ -59,6 +61,7 @@ module _ {O : Type 0} (contents : O → Option (List ℕ)) where
   IsFaultReported fault writer writer' NotText = ⊥
   IsFaultReported fault writer writer' (NoName word) = ⊥
   IsFaultReported fault writer writer' (CannotRead file) = ⊥
+  IsFaultReported fault writer writer' (TooLarge file limit) = ⊥
   IsFaultReported fault writer writer' Refused =
       Appends (contents writer) (contents writer') (fault_text fault)
   IsFaultReported fault writer writer' Input = ⊥
@@ -96,12 +99,15 @@ module _ {O : Type 0} (contents : O → Option (List ℕ)) where
     pub reported : IsFaultReported Memory writer writer' failure
 
   -- What a check of what was read of a file amounts to: want of memory for its octets is reported as that
-  -- for the configuration; of a file that cannot be read nothing is reported.
+  -- for the configuration; of a file that cannot be read, or has too many
+  -- octets, nothing is reported.
   abbrev pub IsFileChecked : Result (List ℕ) NotRead → O → O → Result (Unit {0}) Failure → Type 0
   IsFileChecked (Ok octets) writer writer' ended = IsChecked octets writer writer' ended
   IsFileChecked (Err FileMemory) writer writer' ended = IsWantReported writer writer' ended
   IsFileChecked (Err (Unreadable file)) writer writer' ended =
       (ended ≡ Err (CannotRead file)) × (writer' ≡ writer)
+  IsFileChecked (Err (FileTooLarge file limit)) writer writer' ended =
+      (ended ≡ Err (TooLarge file limit)) × (writer' ≡ writer)
 
 -- A reader of files, by what a read of the file of a name may give, and a writer.
 module _ {O : Type 0} (Gives : List ℕ → Result (List ℕ) NotRead → Type 0)
@@ -110,5 +116,5 @@ module _ {O : Type 0} (Gives : List ℕ → Result (List ℕ) NotRead → Type 0
   pub record IsCheckOf (file : List ℕ) (writer writer' : O) (ended : Result (Unit {0}) Failure)
       : Type 0 where
     pub read : Result (List ℕ) NotRead
-    pub is : IsReadOf Gives file read
+    pub is : IsReadOf Gives limit.Configuration file read
     pub checked : IsFileChecked contents read writer writer' ended

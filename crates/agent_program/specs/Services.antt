@@ -5,6 +5,7 @@ use Rattle.configuration.specs.declared.configuration.Configuration.{Configurati
 use Rattle.configuration.specs.Configurations.{IsConfigurationIn}
 use Rattle.setphase_core.specs.Objects.{ObjectState}
 use Rattle.udp_agent.specs.Setups.{IsSetup, HasSetup}
+use Rattle.agent_program.specs.declared.files.FileLimit.TheVariants as limit
 use Rattle.agent_program.specs.declared.files.NotRead.{NotRead}
 use Rattle.agent_program.specs.declared.failure.Failure.{Failure}
 use Rattle.agent_program.specs.declared.opening.NotRun.{NotRun}
@@ -75,5 +76,5 @@ pub record OpensFile (Gives : List ℕ → Result (List ℕ) NotRead → Type 0)
     (objects : List ObjectState) (lasting : Lasting) (file : List ℕ)
     (done : Result (Option Service) Failure) : Type 0 where
   pub read : Result (List ℕ) NotRead
-  pub is : IsReadOf Gives file read
+  pub is : IsReadOf Gives limit.Configuration file read
   pub opens : OpensRead objects lasting read done

@@ -86,7 +86,8 @@ pub fn check_octets<'a, O: Write>(
 /// was no memory for its octets, that sentence.
 ///
 /// # Errors
-/// As [`check_octets`] has them; `CannotRead`, with nothing written, where the file cannot be read.
+/// As [`check_octets`] has them; with nothing written `CannotRead`, where the file cannot be read, and
+/// `TooLarge`, where it has too many octets.
 pub fn check_read<'a, O: Write>(
     alloc: Global,
     read: Result<Vec<u8>, NotRead<'a>>,
@@ -98,5 +99,6 @@ pub fn check_read<'a, O: Write>(
         Ok(octets) => check_octets(alloc, &octets, writer),
         Err(NotRead::Memory) => Err(report_fault(alloc, ConfigurationFault::Memory, writer)),
         Err(NotRead::Unreadable(file)) => Err(Failure::CannotRead(file)),
+        Err(NotRead::TooLarge(file, limit)) => Err(Failure::TooLarge(file, limit)),
     }
 }

@@ -6,7 +6,7 @@ ghost use Rattle.agent_program.specs.Files.{read_view};
 ghost use Rattle.agent_program.specs.Commands.{policy_failure, heard, IsPrinted, EndsBy, Sends, SendsRead, SendsFile, SendsCommand};
 
 use crate::failure::{Failure, write_out};
-use crate::files::{NotRead, ReadFile, SystemFiles};
+use crate::files::{FileLimit, NotRead, ReadFile, SystemFiles};
 use agent_words::Order;
 use control_socket::{COUNTS, ask_agent, is_refusal, link_command, policy_command};
 use std::alloc::{AllocError, Global};
@@ -97,6 +97,7 @@ fn policy_failure(why: NotRead<'_>) -> Failure<'_>
     match why {
         NotRead::Memory => Failure::Run,
         NotRead::Unreadable(file) => Failure::CannotRead(file),
+        NotRead::TooLarge(file, limit) => Failure::TooLarge(file, limit),
     }
 }
 
@@ -136,13 +137,15 @@ fn send_file<'a, F: ReadFile + AskAgent, O: Write>(
     ensures { SendsFile (F.gives files.now) (F.answers files.now) O.contents path.now file.now
         writer.old writer.new result }
 {
-    send_read(alloc, files, path, files.read_file(file), writer)
+    let read = files.read_file(file, FileLimit::Policy);
+    send_read(alloc, files, path, read, writer)
 }
 
 /// Sends a command to the agent whose control socket has this path, and prints its answer.
 ///
 /// # Errors
-/// `CannotRead` where the file of a policy cannot be read; `Run` where there is no memory for the
+/// `CannotRead` where the file of a policy cannot be read, `TooLarge` where it has more octets than a
+/// policy may have; `Run` where there is no memory for the
 /// command; `Unanswered` where no answer comes within two seconds, or none with octets to counts or a
 /// policy: nothing is written then. `NotDone`
 /// where the answer, which is written, refuses the command; `Output` where a write fails.

@@ -5,7 +5,7 @@ ghost use Rattle.agent_program.specs.Files.{read_view};
 ghost use Rattle.agent_program.specs.Explanations.{kind_by, ExplainsOctets, ExplainsRead, ExplainsFile, IsExplanation};
 
 use crate::failure::{Failure, failure_of, question_failure, read_failure, write_out};
-use crate::files::{NotRead, ReadFile};
+use crate::files::{FileLimit, NotRead, ReadFile};
 use crate::opening::read_configuration;
 use agent_words::{Operation, Question};
 use explain::{explained, question_of};
@@ -71,7 +71,8 @@ fn explain_by<'a, F: ReadFile, O: Write>(
     ensures { ExplainsFile (F.gives files.now) O.contents request.now file.now writer.old
         writer.new result }
 {
-    explain_read(alloc, request, files.read_file(file), writer)
+    let read = files.read_file(file, FileLimit::Configuration);
+    explain_read(alloc, request, read, writer)
 }
 
 /// Says what the policy of a file's configuration decides on the request that words ask about. The

@@ -1,11 +1,11 @@
 //! Why the program ends with another status than 0.
-ghost use Rattle.std.specs.Prelude.{◌≡◌, ◌++◌, OnOk};
+ghost use Rattle.std.specs.Prelude.{◌≡◌, ◌++◌, codes, OnOk};
 ghost use Rattle.std.specs.Io.KnownBytes.{Appends};
 ghost use Rattle.std.specs.IoError.{error_kind};
 ghost use Rattle.agent_program.specs.Reporting.{IsReported};
-ghost use Rattle.agent_program.specs.Endings.{failure_status, failure_words, failure_name, failure_line, failure_of, words_failure, run_failure, read_failure, question_failure, answered_status, answered_line, TakesFront, IsLineTaken};
+ghost use Rattle.agent_program.specs.Endings.{failure_status, failure_words, failure_name, failure_rest, limit_line, failure_line, failure_of, words_failure, run_failure, read_failure, question_failure, answered_status, answered_line, TakesFront, IsLineTaken};
 
-use crate::files::NotRead;
+use crate::files::{FileLimit, NotRead};
 use crate::opening::NotRun;
 use crate::reporting::{NotTaken, write_front};
 use agent_words::Answered;
@@ -27,8 +27,10 @@ pub enum Failure<'a> {
     NotText,
     /// A word that is to be a name is no object identifier.
     NoName(&'a str),
-    /// The file of the configuration cannot be read.
+    /// A file cannot be read.
     CannotRead(&'a str),
+    /// A file has more octets than this limit, and is not read.
+    TooLarge(&'a str, FileLimit),
     /// The configuration is none or does not say how to serve where that is asked, there is no memory
     /// for it or for the objects, or these make no registry.
     Refused,
@@ -96,6 +98,7 @@ pub fn read_failure(why: NotRead<'_>) -> Failure<'_>
     match why {
         NotRead::Memory => Failure::Refused,
         NotRead::Unreadable(file) => Failure::CannotRead(file),
+        NotRead::TooLarge(file, limit) => Failure::TooLarge(file, limit),
     }
 }
 
@@ -105,8 +108,11 @@ impl Failure<'_> {
         ensures { result ≡ failure_status self.now }
     {
         match self {
-            Failure::NotText | Failure::NoName(_) | Failure::CannotRead(_) | Failure::Refused =>
-                USAGE,
+            Failure::NotText
+            | Failure::NoName(_)
+            | Failure::CannotRead(_)
+            | Failure::TooLarge(_, _)
+            | Failure::Refused => USAGE,
             Failure::Input
             | Failure::Output
             | Failure::Unanswered
@@ -122,7 +128,7 @@ impl Failure<'_> {
         match self {
             Failure::NotText => b"a word is no text",
             Failure::NoName(_) => b"no object identifier: ",
-            Failure::CannotRead(_) => b"cannot read ",
+            Failure::CannotRead(_) | Failure::TooLarge(_, _) => b"cannot read ",
             Failure::Refused => b"configuration refused",
             Failure::Input => b"input failed",
             Failure::Output => b"output failed",
@@ -138,7 +144,7 @@ impl Failure<'_> {
     {
         match self {
             Failure::NoName(word) => word.as_bytes(),
-            Failure::CannotRead(file) => file.as_bytes(),
+            Failure::CannotRead(file) | Failure::TooLarge(file, _) => file.as_bytes(),
             Failure::NotText
             | Failure::Refused
             | Failure::Input
@@ -148,9 +154,37 @@ impl Failure<'_> {
             | Failure::Run => b"",
         }
     }
+
+    // What ends its first line, and the line behind it, where there is one.
+    fn rest(&self) -> &'static [u8]
+        ensures { result.now ≡ failure_rest self.now }
+    {
+        match self {
+            Failure::TooLarge(_, limit) => limit_rest(*limit),
+            Failure::NotText
+            | Failure::NoName(_)
+            | Failure::CannotRead(_)
+            | Failure::Refused
+            | Failure::Input
+            | Failure::Output
+            | Failure::Unanswered
+            | Failure::NotDone
+            | Failure::Run => b"\n",
+        }
+    }
 }
 
-// Writes the line of a failure until a write fails.
+// The end of a first line, and the line that says how many octets a file may have.
+fn limit_rest(limit: FileLimit) -> &'static [u8]
+    ensures { result.now ≡ codes "\n" ++ limit_line limit }
+{
+    match limit {
+        FileLimit::Configuration => b"\nagentd: it has more than 268435456 octets\n",
+        FileLimit::Policy => b"\nagentd: it has more than 65536 octets\n",
+    }
+}
+
+// Writes the line of a failure, or both, until a write fails.
 fn write_line<E: Write>(failure: &Failure<'_>, errors: &mut E) -> Result<(), NotTaken>
     ensures whole { OnOk result (Appends (E.contents errors.old) (E.contents errors.new)
         (failure_line failure.now)) }
@@ -160,7 +194,7 @@ fn write_line<E: Write>(failure: &Failure<'_>, errors: &mut E) -> Result<(), Not
     write_front(errors, b"agentd: ")?;
     write_front(errors, failure.words())?;
     write_front(errors, failure.name())?;
-    write_front(errors, b"\n")
+    write_front(errors, failure.rest())
 }
 
 /// How a run of the program ended, as it is reported.
@@ -172,7 +206,8 @@ pub struct Ended {
     pub line: Result<(), NotTaken>,
 }
 
-/// Writes a failure as one line, or a front of it where a write fails, and gives its exit status.
+/// Writes a failure as one line, and for a file with too many octets a second one, or a front of that where
+/// a write fails, and gives its exit status.
 pub fn report<E: Write>(failure: &Failure<'_>, errors: &mut E) -> Ended
     ensures status { result.status ≡ failure_status failure.now }
     ensures line { IsLineTaken result.line (E.contents errors.old) (E.contents errors.new)

@@ -6,14 +6,14 @@
 //! [`Ended`], that is the exit status, 0, 1 or 2, and whether the line of a failure was written
 //! whole; and what is left to be served, if that is asked, and for how long: an [`Opened`], and
 //! [`agent_words::Lasting`]. [`end_answered`] ends words that are no command. A [`ReadFile`] gives
-//! the octets of a file or [`NotRead`], an [`AskAgent`] what a served agent answers to a command,
+//! the octets of a file, of which it may have as many as a [`FileLimit`], or [`NotRead`], an [`AskAgent`] what a served agent answers to a command,
 //! [`SystemFiles`] those of the system. [`run_octets`] runs the
 //! script over objects by the octets of a configuration, and refuses octets that say none, or objects
 //! that make no registry, before it reads or writes; [`NotRun`] says why there was no run to the end.
 //! [`check_octets`] reports whether octets are one, [`check_read`] whether what was read of a file is.
 //! [`open_service`] gives what octets say is to be served, [`serve_opened`] serves it for its rounds,
 //! and [`serve_opened_forever`] without an end. [`collect_words`] has the words of a command line as
-//! a list. [`report`] writes the line of a [`Failure`], or a front of it, which is [`NotTaken`] whole.
+//! a list. [`report`] writes the line of a [`Failure`], and a second of a file with too many octets, or a front of it, which is [`NotTaken`] whole.
 //!
 //! # Definitions
 //! `specs/Files.antt`: what a read of a file gave; `specs/Agents.antt`: the world that a
@@ -49,7 +49,7 @@ pub use checking::{check_octets, check_read};
 pub use collecting::collect_words;
 pub use commanding::AskAgent;
 pub use failure::{Ended, Failure, end_answered, report};
-pub use files::{NotRead, ReadFile, SystemFiles};
+pub use files::{FileLimit, MAX_CONFIGURATION, NotRead, ReadFile, SystemFiles};
 pub use opening::NotRun;
 pub use reporting::NotTaken;
 pub use run::run_asked;

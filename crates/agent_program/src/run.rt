@@ -10,7 +10,7 @@ use crate::checking::check_read;
 use crate::commanding::{AskAgent, send_order};
 use crate::explaining::explain_file;
 use crate::failure::{Ended, Failure, failure_of, read_failure, report};
-use crate::files::{NotRead, ReadFile};
+use crate::files::{FileLimit, NotRead, ReadFile};
 use crate::running::run_octets;
 use crate::serving::{Opened, open_service};
 use agent_words::{Asked, Lasting};
@@ -20,8 +20,8 @@ use std::alloc::Global;
 use std::io::{Read, Write};
 
 /// Does what is asked, and gives the exit status: 0; 1 where input, output or the run failed; 2 for a
-/// configuration that cannot be read or is refused. A failure is written to `errors` as one line,
-/// whole or a front of it behind which a write failed. The octets of a file are those that `files`
+/// configuration that cannot be read or is refused. A failure is written to `errors` as its lines,
+/// whole or a front of them behind which a write failed. The octets of a file are those that `files`
 /// gives for its name. The script runs over exactly the objects that are handed in; where they make
 /// no registry, its configuration is refused.
 ///
@@ -132,7 +132,8 @@ fn serve_file<'a, F: ReadFile, M: MibObject>(
 ) -> Result<Option<(Registry<M>, Opened, Lasting<'a>)>, Failure<'a>>
     ensures { OpensFile (F.gives files.now) (map M.state objects.items) lasting.entry file.now result }
 {
-    serve_read(alloc, objects, files.read_file(file), lasting)
+    let read = files.read_file(file, FileLimit::Configuration);
+    serve_read(alloc, objects, read, lasting)
 }
 
 // Runs the script by the octets of a configuration.
@@ -188,7 +189,8 @@ where
         I.remaining O.contents file.now
         reader.old reader.new writer.old writer.new result }
 {
-    run_read(alloc, objects, files.read_file(file), reader, writer)
+    let read = files.read_file(file, FileLimit::Configuration);
+    run_read(alloc, objects, read, reader, writer)
 }
 
 // Reports whether a file is a configuration.
@@ -204,5 +206,6 @@ where
     O: Write,
     ensures { IsCheckOf (F.gives files.now) O.contents file.now writer.old writer.new result }
 {
-    check_read(alloc, files.read_file(file), writer)
+    let read = files.read_file(file, FileLimit::Configuration);
+    check_read(alloc, read, writer)
 }

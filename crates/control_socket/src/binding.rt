@@ -16,11 +16,17 @@ use wire_core::TaskStart;
 // The mode of the socket: its owner alone may connect to it.
 const SOCKET_MODE: u32 = 0o600;
 
+// The mode of its directory: its owner alone may read, write and enter it.
+const DIRECTORY_MODE: u32 = 0o700;
+
+// The bits of a file's mode that say who may do what, with those of its user, its group and its deletion.
+const MODE_BITS: u32 = 0o7777;
+
 // What the system says of this process.
 const OWN_PROCESS: &str = "/proc/self";
 
 /// Makes the control socket at a path, for its owner alone. Its directory has to be that of the user by
-/// whom the agent runs, and closed to all others: else nothing is removed or made. A socket at which
+/// whom the agent runs, with exactly the mode 700: else nothing is removed or made. A socket at which
 /// nobody answers any more is removed first. Its task has such a part in the agent's start.
 ///
 /// # Errors
@@ -59,15 +65,15 @@ fn owner_of_directory<R: Files>(rt: &R, path: &str) -> Result<u32, ControlFault>
     }
 }
 
-// What is wrong with what a socket is to be in, by whether it is a directory, and by its mode, of which
-// the lowest six bits say what others than its owner may do.
+// What is wrong with what a socket is to be in, by whether it is a directory, and by its mode, whose twelve
+// lowest bits say who may do what there: they have to be 700.
 fn directory_fault(is_directory: bool, mode: u32) -> Option<ControlFault>
     ensures { result ≡ directory_fault is_directory mode }
 {
     if !is_directory {
         return Some(ControlFault::NoDirectory);
     }
-    if mode & 0o077 != 0 {
+    if mode & MODE_BITS != DIRECTORY_MODE {
         return Some(ControlFault::OpenDirectory);
     }
     None

@@ -7,7 +7,7 @@ use std::io;
 pub enum ControlFault {
     /// What the path has before its last name is no directory.
     NoDirectory,
-    /// The directory is open to others than its owner.
+    /// The directory has another mode than 700.
     OpenDirectory,
     /// The directory is not that of the user by whom the agent runs.
     OtherOwner,

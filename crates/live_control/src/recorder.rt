@@ -1,5 +1,5 @@
 //! What takes the items of the control socket.
-ghost use Rattle.std.specs.Prelude.{◌≡◌, ◌<◌, ◌++◌, ◌∷◌, [], vec_len, vec_capacity, OnOk};
+ghost use Rattle.std.specs.Prelude.{◌≡◌, ◌<◌, ◌++◌, ◌∷◌, [], vec_len, vec_capacity, OnOk, OnErr};
 
 use crate::item::ControlItem;
 use std::alloc::AllocError;
@@ -23,7 +23,8 @@ pub trait ControlRecorder: Drop {
     /// That there is none.
     fn reserve(&mut self) -> Result<(), AllocError>
         ensures unchanged { went self.old [] self.new }
-        ensures space { OnOk result (has_space self.new) };
+        ensures space { OnOk result (has_space self.new) }
+        ensures short { OnErr result (has_space self.new → ⊥) };
 
     /// Takes an item, for which there is memory.
     fn record(&mut self, item: ControlItem)

@@ -22,6 +22,7 @@ use Rattle.live_agent.specs.declared.trace.Item.TheVariants as item
 use Rattle.live_control.specs.Lines.{HasControlled}
 use Rattle.live_control.specs.Runs.{adds as control_adds}
 use Rattle.live_control.specs.declared.item.ControlItem.{ControlItem}
+use Rattle.live_control.specs.declared.tally.DropCounts.{DropCounts}
 use Rattle.live_run.specs.Crews.{AllGone}
 use Rattle.live_laps.specs.Lines.{name_of}
 use Rattle.live_laps.specs.Notes.{Note, interval_worked, interval_ticked, line_failed, line_ended, worked_in}
@@ -37,12 +38,12 @@ is_first_entered (Refused cause ∷ items) = false
 is_first_entered (Short ∷ items) = false
 is_first_entered (item.Full ∷ items) = false
 
--- An interval of the control line of so many ports: one item for each command, whichever counts of
--- datagrams it was handed.
-abbrev pub HasCommanded : {C : Type 0} → (C → List ControlDeed → C → Type 0) → RunStart → ℕ → ℕ → C → C
-    → ℕ → ℕ → End → Type 0
-HasCommanded control_did s rounds ports a b m n end = (items : List ControlItem)
-    × HasControlled control_did control_adds (λ counts. Unit) s ports rounds a b [] items m n end
+-- An interval of the control line of so many ports: one item for each command; and where the counts were
+-- asked for, they were answered with such drops.
+abbrev pub HasCommanded : {C : Type 0} → (C → List ControlDeed → C → Type 0) → (DropCounts → Type 0) → RunStart
+    → ℕ → ℕ → C → C → ℕ → ℕ → End → Type 0
+HasCommanded control_did Answers s rounds ports a b m n end = (items : List ControlItem)
+    × HasControlled control_did control_adds Answers s ports rounds a b [] items m n end
 
 -- All of these went on over the history that was handed in, and this is what became of it: a legal
 -- one, which goes on from it by as many entries as they made.
@@ -81,7 +82,7 @@ module _ {A W T C : Type 0} (worker_did : A → List Deed → A → Type 0) (wor
       HasTicked ticker_did adds s rounds a b [] trace m n end
       × (ticker_failures b ≡ failures_at end (ticker_failures a))
   IsInterval (Control ports a) (Control ports' b) m n trace end =
-      (ports' ≡ ports) × (trace ≡ []) × HasCommanded control_did s rounds ports a b m n end
+      (ports' ≡ ports) × (trace ≡ []) × HasCommanded control_did (λ counts. Unit) s rounds ports a b m n end
   IsInterval _ _ m n trace end = ⊥
 
 -- What is reported to the watch of a line of an interval that left this trace, once its thread has

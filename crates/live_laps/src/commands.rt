@@ -2,6 +2,7 @@
 ghost use Rattle.std.specs.Prelude.{◌≡◌, ◌<◌};
 ghost use Rattle.live_agent.specs.Lines.{run_start_of};
 ghost use Rattle.live_laps.specs.Laps.{HasCommanded};
+ghost use Rattle.live_laps.specs.Tallies.{wrapped, counts_of, MayAnswer};
 
 use crate::book::Drops;
 use crate::watch::Watch;
@@ -45,7 +46,9 @@ struct WatchTally<'w, V> {
 }
 
 impl<V: Watch> DropTally for WatchTally<'_, V> {
-    ghost reports = { λ _ _. Unit };
+    ghost use Rattle.live_laps.specs.Tallies.{MayAnswer};
+
+    ghost reports = { λ tally counts. MayAnswer V.reports tally.watch.now counts };
 
     fn dropped<R: Wait>(&self, rt: &R) -> DropCounts {
         counts_of(self.watch.dropped(rt))
@@ -53,12 +56,16 @@ impl<V: Watch> DropTally for WatchTally<'_, V> {
 }
 
 // A count modulo 2^32.
-fn wrapped(count: u64) -> u32 {
+fn wrapped(count: u64) -> u32
+    ensures { result ≡ wrapped count }
+{
     (count % (1 << 32)) as u32
 }
 
 // The drops, each modulo 2^32.
-fn counts_of(drops: Drops) -> DropCounts {
+fn counts_of(drops: Drops) -> DropCounts
+    ensures { result ≡ counts_of drops }
+{
     DropCounts {
         too_long: wrapped(drops.too_long),
         malformed: wrapped(drops.malformed),
@@ -69,7 +76,8 @@ fn counts_of(drops: Drops) -> DropCounts {
 }
 
 /// An interval of the control line of so many ports, and how it ended. An operator who asks for the
-/// counts is answered what the watch gives then. What became of each command is reported to the watch.
+/// counts is answered what the watch gives then: drops that it reports, each cause's count modulo 2^32
+/// (`run`), and so some counts (`any`). What became of each command is reported to the watch.
 pub(crate) fn command_interval<O: MibObject, L: Run, C: ControlWire, V: Watch, R: Wait>(
     rt: &R,
     plan: &Plan,
@@ -80,8 +88,10 @@ pub(crate) fn command_interval<O: MibObject, L: Run, C: ControlWire, V: Watch, R
     wire: &mut C,
 ) -> End
     requires { 0 < share.old.parts }
-    ensures run { HasCommanded C.did (run_start_of L.start plan.now) plan.now.rounds ports wire.old
-        wire.new share.old.amount share.new.amount result }
+    ensures run { HasCommanded C.did (MayAnswer V.reports watch.now) (run_start_of L.start plan.now)
+        plan.now.rounds ports wire.old wire.new share.old.amount share.new.amount result }
+    ensures any { HasCommanded C.did (λ counts. Unit) (run_start_of L.start plan.now) plan.now.rounds ports
+        wire.old wire.new share.old.amount share.new.amount result }
     ensures parts { share.new.parts ≡ share.old.parts }
 {
     let mut space = [0u8; COMMAND_SPACE];

@@ -14,7 +14,8 @@
 //! # Definitions
 //! `specs/Lines.antt`: the lines of a run; `specs/Notes.antt`: what is reported to a watch;
 //! `specs/Sums.antt`: the counts of the items of an interval; `specs/Laps.antt`: the intervals of a
-//! line, when it goes on behind one, and lines that went on side by side.
+//! line, when it goes on behind one, and lines that went on side by side; `specs/Tallies.antt`: what an
+//! operator is answered of the drops.
 //!
 //! # Laws
 //! On [`serve_laps`]: each line went on interval by interval, each of which is as the run of its kind
@@ -26,7 +27,7 @@
 //!
 //! # Not claimed
 //! That a line ends; how long a pace waits; that two threads run at the same time; what a [`WorkTotals`]
-//! holds, nor what an operator is answered of it; that an interval is reported before the next one begins;
+//! holds; that the drops that a watch reports, of which an operator is answered, are those of it; that an interval is reported before the next one begins;
 //! that a command of an operator is reported.
 #![tactic(auto)]
 

@@ -14,16 +14,21 @@ use std::sync::Wait;
 pub trait Watch: Drop {
     ghost use Rattle.std.specs.Prelude.{◌≡◌, List, [], ◌∷◌, ◌++◌};
     ghost use Rattle.live_laps.specs.Notes.{Note, interval_worked, interval_ticked, line_failed, line_ended};
+    ghost use Rattle.live_laps.specs.declared.book.Drops.{Drops};
 
     // These notes, in this order, lead from one state of it to another.
     ghost went: { Self → List Note → Self → Type 0 };
+
+    // It may report these drops, as of some time: other threads count on.
+    ghost reports: { Self → Drops → Type 0 };
 
     /// Another of the same, for another line.
     fn another(&self) -> Self
         ensures { result ≡ self.now };
 
     /// The datagrams that each cause dropped so far, for an operator who asks for them.
-    fn dropped<R: Wait>(&self, rt: &R) -> Drops;
+    fn dropped<R: Wait>(&self, rt: &R) -> Drops
+        ensures { reports self.now result };
 
     /// Behind each command of an operator and its answer, if there was memory for one: what became of it. No clause says what
     /// is done with that.

@@ -103,6 +103,8 @@ impl<G: Log> Reporter<'_, G> {
 impl<G: Log> Watch for Reporter<'_, G> {
     ghost went = { λ _ _ _. Unit };
 
+    ghost reports = { λ _ _. Unit };
+
     ghost starts = { λ _. tt };
 
     ghost goes_on = { λ _ _ _ _ _ _ _. tt };

@@ -146,6 +146,8 @@ impl<'r, R: Wait> HoldWatch<'r, R> {
 impl<R: Wait + Clock> Watch for HoldWatch<'_, R> {
     ghost went = { λ _ _ _. Unit };
 
+    ghost reports = { λ _ _. Unit };
+
     ghost starts = { λ _. tt };
 
     ghost goes_on = { λ _ _ _ _ _ _ _. tt };

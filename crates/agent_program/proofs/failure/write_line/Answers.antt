@@ -20,10 +20,10 @@ pub returns-clause-front : goal.returns-clause-front
 returns-clause-front g c =
     front_then _ _ _ (codes "agentd: ") _ c.in_ok-write_front.ensures.whole
     (front_then _ _ _ _ _ (rw c.words.ensures at c.in_ok-write_front-2.ensures.whole)
-    (front_then _ _ _ _ _ (rw c.name.ensures at c.in_ok-write_front-3.ensures.whole) c.write_front-4.ensures.front))
+    (front_then _ _ _ _ _ (rw c.name.ensures at c.in_ok-write_front-3.ensures.whole) (rw c.rest.ensures at c.write_front-4.ensures.front)))
 
 pub returns-clause-whole : goal.returns-clause-whole
 returns-clause-whole g c =
     line_whole c.write_front-4.result _ _ _ _ _ (codes "agentd: ") _ _ _ c.in_ok-write_front.ensures.whole
     (rw c.words.ensures at c.in_ok-write_front-2.ensures.whole)
-    (rw c.name.ensures at c.in_ok-write_front-3.ensures.whole) c.write_front-4.ensures.whole
+    (rw c.name.ensures at c.in_ok-write_front-3.ensures.whole) (rw c.rest.ensures at c.write_front-4.ensures.whole)
