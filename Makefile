@@ -1,4 +1,4 @@
-.PHONY: run serve lab test bench growths scripts udp-session hostile endurance wrong-bodies
+.PHONY: run serve lab test bench growths scripts udp-session hostile endurance wrong-bodies networks
 
 # Answers some worked lines. It compiles and runs, and proves nothing.
 run:
@@ -9,7 +9,7 @@ serve:
 	tools/serve
 
 # Reads the words of documents, comments, printed texts and names; proves every crate, tries the must-fail edits, runs the tests and the programs; then runs the agent
-# so built over the stored scripts and over a random one, and serves it over UDP, where the manager and, if it is there, Net-SNMP ask
+# so built over the stored scripts and over a random one, as the bridges of stored and of random networks, and serves it over UDP, where the manager and, if it is there, Net-SNMP ask
 # it, and where four clients ask it at the same time, which a script replays; then runs the manager by stored runs, in which the agent is played; last, where root has network namespaces, it tries the
 # feeder, and by it the agent between two hosts.
 # As many checks run at a time as there are processors, each in one job, since a check in two takes some half more processor time. rt
@@ -19,6 +19,8 @@ test:
 	RT_JOBS=$${RT_JOBS:-$$(nproc)} rt ci
 	tools/stored-scripts
 	tools/random-script
+	tools/stored-networks
+	tools/random-networks
 	tools/udp-session
 	tools/replay
 	tools/manager-session
@@ -40,6 +42,12 @@ scripts:
 	cd crates/agentd && rt run < stdin > /dev/null
 	tools/stored-scripts
 	tools/random-script
+
+# Builds agentd, proved, and runs it as the bridges of the stored networks and of 2,000 random ones.
+networks:
+	cd crates/agentd && rt run < stdin > /dev/null
+	tools/stored-networks --seeds 10
+	tools/random-networks --seed 1 --networks 2000 --table
 
 # Builds both programs, proved, and serves over UDP alone.
 udp-session:
