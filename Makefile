@@ -1,4 +1,4 @@
-.PHONY: run serve lab test bench growths scripts udp-session hostile attacks endurance wrong-bodies
+.PHONY: run serve lab test bench growths scripts udp-session hostile attacks endurance wrong-bodies networks
 
 # Answers some worked lines. It compiles and runs, and proves nothing.
 run:
@@ -10,10 +10,10 @@ serve:
 
 # Reads the words of documents, comments, printed texts and names, and whether each function that may answer that there is no memory
 # has its row; proves every crate, tries the must-fail edits, runs the tests and the programs; then runs the agent so built over the
-# stored scripts and over a random one, refuses its growths of memory for names in turn, and serves it over UDP, where the manager and,
-# if it is there, Net-SNMP ask it, and where four clients ask it at the same time, which a script replays; then runs the manager by
-# stored runs, in which the agent is played; last, where root has network namespaces, it tries the feeder, and by it the agent between
-# two hosts.
+# stored scripts and over a random one, refuses its growths of memory for names in turn, runs it as the bridges of stored and of random
+# networks, and serves it over UDP, where the manager and, if it is there, Net-SNMP ask it, and where four clients ask it at the same
+# time, which a script replays; then runs the manager by stored runs, in which the agent is played; last, where root has network
+# namespaces, it tries the feeder, and by it the agent between two hosts.
 # As many checks run at a time as there are processors, each in one job, since a check in two takes some half more processor time. rt
 # then takes no account of free memory: have some 4 GB for each processor, or give a smaller RT_JOBS.
 test:
@@ -23,6 +23,8 @@ test:
 	tools/stored-scripts
 	tools/random-script
 	tools/refused-growths --where-possible names family
+	tools/stored-networks
+	tools/random-networks
 	tools/udp-session
 	tools/replay
 	tools/manager-session
@@ -44,6 +46,12 @@ scripts:
 	cd crates/agentd && rt run < stdin > /dev/null
 	tools/stored-scripts
 	tools/random-script
+
+# Builds agentd, proved, and runs it as the bridges of the stored networks and of 2,000 random ones.
+networks:
+	cd crates/agentd && rt run < stdin > /dev/null
+	tools/stored-networks --seeds 10
+	tools/random-networks --seed 1 --networks 2000 --table
 
 # Builds both programs, proved, and serves over UDP alone.
 udp-session:
