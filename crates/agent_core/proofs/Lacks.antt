@@ -56,7 +56,7 @@ passed_first shows rows name found row h e is =
     }
 
 -- neither is less
-apart : (a b : List ℕ) → name_lt a b ≡ false → (a ≡ b → ⊥) → name_lt b a ≡ true
+pub apart : (a b : List ℕ) → name_lt a b ≡ false → (a ≡ b → ⊥) → name_lt b a ≡ true
 apart a b h n = elim (any_two a b) [
   | inl before ↦ let fails : true ≡ false = sym (before_lt a b before) ∙ h in absurd (cc)
   | inr (inl same) ↦ absurd (n same)

@@ -1,6 +1,5 @@
 -- The laws of replies.
 use Rattle.std.proofs.Common.{◌≡◌, ◌≢◌, ℕ, pos, suc, ◌+◌, ◌*◌, ◌/◌, ◌<◌, ◌≤◌, ◌∙◌, ap, sym, refl, Bool, List, [], ◌∷◌, ◌++◌, length, arith, All, Some}
-use Rattle.std.proofs.Math.Nat.{mul-le-mul_right}
 use Rattle.std.proofs.lemmas.List.Elements.{All-head, All-tail}
 use Rattle.oid_core.specs.Order.{name_lt}
 use Rattle.message_core.specs.Canon.{answer_to}
@@ -25,7 +24,7 @@ use Rattle.agent_core.specs.Replies.{reply_within_limit, kind_reply, walk, last_
 use Rattle.agent_core.specs.Answers.{Shown, AgreesOnAsked, outcome_of, outcome_by, reply_in, reply_of}
 use Rattle.message_core.proofs.Rising.{find_is, after-first}
 use Rattle.agent_core.proofs.Below.{visible-rising}
-use Rattle.agent_core.proofs.Fits.{total-append, total_one}
+use Rattle.agent_core.proofs.FewFit.{total_some}
 use Rattle.agent_core.proofs.Longest.{longest_law}
 
 -- a walk
@@ -78,29 +77,8 @@ reply_same shown other request row other_row view other_view d f e reads h =
     ∙ ap (λ (reply : Reply). Some reply) same
     ∙ sym (ap (λ (decision : Decision). reply_in (outcome_by other request decision)) f)
 
-pub total_some : (bs : List Binding) → 6 * length bs ≤ total bs
-total_some [] = omega arith
-total_some (b ∷ bs) =
-    let more : 6 * length bs ≤ total bs = total_some bs in
-    let sum : total (b ∷ bs) ≡ total (b ∷ []) + total bs = total-append (b ∷ []) bs in
-    omega (arith, more, binding_some b, total_one b, sum)
-
 pub few_law : (request : Request) (all : List Binding) → length request.community ≤ MAX_COMMUNITY → least_binding * length (fitting_front request all) ≤ MAX_REPLY
 few_law request all community =
     let sent : List Binding = fitting_front request all in
     let fits : reply_size request sent ≤ MAX_REPLY = (longest_law request all community).fits in
     omega (arith, fits, reply_some (answer_to request NoError (pos 0) sent), total_some sent)
-
--- a successor for each binding that is sent, and one more, and so many searches for each
--- for bindings that fit, and one more, there is memory
-pub reserved : (bs : List Binding) (used space capacity : ℕ) → used ≡ total bs → used ≤ space → space / least_binding < capacity → length bs < capacity
-reserved bs used space capacity is within some =
-    let six : 6 * length bs ≤ total bs = total_some bs in
-    omega (arith, six, is, within, some)
-
-pub work_within : (start now space u : ℕ) (bs : List Binding) → total bs ≤ space → space ≤ MAX_REPLY → now ≤ start + (length bs + 1) * u → now ≤ start + most_successors * u
-work_within start now space u bs within most work =
-    let six : 6 * length bs ≤ total bs = total_some bs in
-    let few : length bs + 1 ≤ most_successors = omega (arith, six, within, most) in
-    let lookups : (length bs + 1) * u ≤ most_successors * u = mul-le-mul_right u few in
-    omega (arith, lookups, work)

@@ -6,7 +6,7 @@ pub mod Apart
 pub mod Rest
 pub mod Lacks
 pub mod LookupLemmas
-pub mod Walking
+pub mod HiddenWalks
 pub mod Below
 pub mod SentBindings
 pub mod Sizes
@@ -15,6 +15,7 @@ pub mod Fits
 pub mod Lackings
 pub mod Repeats
 pub mod Longest
+pub mod FewFit
 pub mod LawProofs
 pub mod Denials
 pub mod Owners

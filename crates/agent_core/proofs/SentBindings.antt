@@ -16,7 +16,7 @@ use Rattle.agent_core.specs.Bulk.{is_end, all_end}
 use Rattle.agent_core.specs.Fitting.{total, least_binding}
 use Rattle.agent_core.specs.Sending.{Sending, IsSending, name_there, StandsWithin}
 use Rattle.agent_core.proofs.Fits.{total-append, total_one, all_at, all_append}
-use Rattle.agent_core.proofs.LawProofs.{reserved}
+use Rattle.agent_core.proofs.FewFit.{reserved, few_sent}
 
 -- a name stands where it stood when more numbers stand behind
 there_still : (numbers more : List ℕ) (s : SentBinding) → StandsWithin (length numbers) s → name_there (numbers ++ more) s ≡ name_there numbers s

@@ -1,5 +1,6 @@
 pub mod Reading
 pub mod Lookups
+pub mod Hidden
 pub mod Denying
 pub mod Buffered
 pub mod Bulk

@@ -43,7 +43,8 @@ use vacm_core::Name;
 /// another kind changes nothing else in the world, and nothing in the objects.
 /// Objects that the view is seen to hide whole (`Vacm::hides_all`) are passed over: their instances
 /// are neither searched nor read. No clause says so: the reply is that over all instances.
-/// How often a GetBulk asks for a successor is a clause of `get_bulk`, and of none here.
+/// A hidden instance that one name of a request has passed is not passed again. How often a request asks for a
+/// successor is a clause of `get_bulk`, `get_next_all` and `get_all`, and of none here.
 ///
 /// The caller hands in a request whose names and OBJECT IDENTIFIER values have an encoding, as
 /// `decode` gives it, and for a Set memory for the settings that a failing device may keep from being

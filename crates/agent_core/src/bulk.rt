@@ -6,14 +6,16 @@ ghost use Rattle.message_core.specs.Encodable.{AreEncodable, IsEncodableBinding}
 ghost use Rattle.message_core.specs.declared.limits.TheConstants.{MAX_COMMUNITY};
 ghost use Rattle.message_core.specs.Instances.{names_of};
 ghost use Rattle.agent_core.specs.Reading.{visible, next_answer, next_answers};
-ghost use Rattle.agent_core.specs.Lookups.{most_lookups, PassesLong};
+ghost use Rattle.agent_core.specs.Lookups.{hidden_count, most_lookups, PassesLong};
+ghost use Rattle.agent_core.specs.Hidden.{AreRunsFor, hidden_left};
 ghost use Rattle.agent_core.specs.Lacking.{IsLacking, LacksBulkName, IfName, bulk_names, binding_number};
 ghost use Rattle.agent_core.specs.Bulk.{repetitions, further, bulk_list, count_of, asked_list};
 ghost use Rattle.agent_core.specs.Sending.{AreStands};
 ghost use Rattle.agent_core.specs.Fitting.{fitting_front, fit_into, most_successors, IsFilled};
 ghost use Rattle.message_core.specs.declared.binding.Binding.{Binding};
 
-use crate::fitting::FittingBindings;
+use crate::fitting::{FittingBindings, MOST_SUCCESSORS};
+use crate::hidden::HiddenRuns;
 use crate::nexts::find_next;
 use crate::shortage::Shortage;
 use crate::source::{Stand, Successors};
@@ -91,10 +93,13 @@ fn send_next<S: Successors<L>, L: Ledger>(
     name: &[u32],
     fitting: &mut FittingBindings,
     spot: &mut Spot,
+    hidden: &mut HiddenRuns,
     steps: &mut Steps<L>,
 ) -> Result<bool, AllocError>
     requires stands { AreStands (S.stands lookup.source.now) fitting.old.stands
         (names_of fitting.old.bindings) }
+    requires runs { AreRunsFor (S.shows lookup.source.now) (S.instances lookup.source.now) (S.at lookup.source.now)
+        (S.is_there lookup.source.now) (S.stands lookup.source.now) most_successors (length fitting.old.bindings) hidden.old }
     requires root { HasRoot name.now }
     requires most { length name.now ≤ MAX_NUMBERS }
     ensures taken { IfOk result (λ taken. IsTrue taken →
@@ -110,12 +115,20 @@ fn send_next<S: Successors<L>, L: Ledger>(
     ensures err { OnErr result (fitting.new.bindings ≡ fitting.old.bindings) }
     ensures lacks { OnErr result
         (PassesLong (S.shows lookup.entry.source.now) (S.instances lookup.entry.source.now) name.now) }
-    ensures work { steps.new ≤ steps.old + most_lookups (S.shows lookup.entry.source.now)
-        (S.instances lookup.entry.source.now) }
+    ensures runs { IfOk result (λ taken. IsTrue taken →
+        AreRunsFor (S.shows lookup.entry.source.now) (S.instances lookup.entry.source.now) (S.at lookup.entry.source.now)
+        (S.is_there lookup.entry.source.now) (S.stands lookup.entry.source.now) most_successors (length fitting.new.bindings) hidden.new) }
+    ensures work { steps.new ≤ steps.old + 1 + hidden_left (S.shows lookup.entry.source.now)
+        (S.instances lookup.entry.source.now) hidden.old.runs.items }
+    ensures once { IfOk result (λ _. steps.new + hidden_left (S.shows lookup.entry.source.now)
+        (S.instances lookup.entry.source.now) hidden.new.runs.items
+        ≤ steps.old + 1 + hidden_left (S.shows lookup.entry.source.now)
+        (S.instances lookup.entry.source.now) hidden.old.runs.items) }
 {
     let Lookup { alloc, source } = lookup;
+    fitting.known();
     let mut stand = stand_at(source, fitting, name);
-    if find_next(alloc, source, name, &mut stand, spot, steps)? {
+    if find_next(alloc, source, name, &mut stand, spot, hidden, steps)? {
         return Ok(offer_instance(lookup, spot, stand, fitting));
     }
     Ok(fitting.offer(name, &[], &Value::EndOfMibView, stand))
@@ -128,10 +141,13 @@ fn repeat_once<S: Successors<L>, L: Ledger>(
     asked: &[Binding],
     fitting: &mut FittingBindings,
     spot: &mut Spot,
+    hidden: &mut HiddenRuns,
     steps: &mut Steps<L>,
 ) -> Result<bool, AllocError>
     requires stands { AreStands (S.stands lookup.source.now) fitting.old.stands
         (names_of fitting.old.bindings) }
+    requires runs { AreRunsFor (S.shows lookup.source.now) (S.instances lookup.source.now) (S.at lookup.source.now)
+        (S.is_there lookup.source.now) (S.stands lookup.source.now) most_successors (length fitting.old.bindings) hidden.old }
     requires encodable { AreEncodable asked.now }
     ensures whole { IfOk result (λ whole. IsTrue whole →
         fitting.new.bindings ≡ fitting.old.bindings ++ next_answers
@@ -144,14 +160,17 @@ fn repeat_once<S: Successors<L>, L: Ledger>(
     ensures stands { AreStands (S.stands lookup.entry.source.now) fitting.new.stands
         (names_of fitting.new.bindings) }
     ensures space { fitting.new.space ≡ fitting.old.space }
-    ensures work { let most = most_lookups (S.shows lookup.entry.source.now)
-        (S.instances lookup.entry.source.now) in
-        steps.new + length fitting.old.bindings * most
-        ≤ steps.old + (length fitting.new.bindings + 1) * most }
-    ensures whole_work { let most = most_lookups (S.shows lookup.entry.source.now)
-        (S.instances lookup.entry.source.now) in
-        IfOk result (λ whole. IsTrue whole →
-        steps.new + length fitting.old.bindings * most ≤ steps.old + length fitting.new.bindings * most) }
+    ensures work { steps.new + length fitting.old.bindings
+        ≤ steps.old + length fitting.new.bindings + 1 + hidden_left (S.shows lookup.entry.source.now)
+        (S.instances lookup.entry.source.now) hidden.old.runs.items }
+    ensures runs { IfOk result (λ whole. IsTrue whole →
+        AreRunsFor (S.shows lookup.entry.source.now) (S.instances lookup.entry.source.now) (S.at lookup.entry.source.now)
+        (S.is_there lookup.entry.source.now) (S.stands lookup.entry.source.now) most_successors (length fitting.new.bindings) hidden.new) }
+    ensures once { IfOk result (λ whole. IsTrue whole →
+        steps.new + length fitting.old.bindings + hidden_left (S.shows lookup.entry.source.now)
+        (S.instances lookup.entry.source.now) hidden.new.runs.items
+        ≤ steps.old + length fitting.new.bindings + hidden_left (S.shows lookup.entry.source.now)
+        (S.instances lookup.entry.source.now) hidden.old.runs.items) }
     ensures lacks { OnErr result (IsLacking (S.shows lookup.entry.source.now)
         (S.instances lookup.entry.source.now)
         (λ found. names_of asked.now) fitting.old.bindings (fitting.old.bindings ++ next_answers
@@ -159,7 +178,14 @@ fn repeat_once<S: Successors<L>, L: Ledger>(
         fitting.new.bindings) }
 {
     for binding in asked {
-        if !send_next(lookup, binding.name.as_slice(), fitting, spot, steps)? {
+        if !send_next(
+            lookup,
+            binding.name.as_slice(),
+            fitting,
+            spot,
+            hidden,
+            steps,
+        )? {
             return Ok(false);
         }
     }
@@ -173,10 +199,13 @@ fn send_successor<S: Successors<L>, L: Ledger>(
     back: usize,
     fitting: &mut FittingBindings,
     spot: &mut Spot,
+    hidden: &mut HiddenRuns,
     steps: &mut Steps<L>,
 ) -> Result<bool, AllocError>
     requires stands { AreStands (S.stands lookup.source.now) fitting.old.stands
         (names_of fitting.old.bindings) }
+    requires runs { AreRunsFor (S.shows lookup.source.now) (S.instances lookup.source.now) (S.at lookup.source.now)
+        (S.is_there lookup.source.now) (S.stands lookup.source.now) most_successors (length fitting.old.bindings) hidden.old }
     requires some { 1 ≤ back }
     requires there { back ≤ length fitting.old.bindings }
     ensures taken { let name = get_or (names_of fitting.old.bindings)
@@ -197,13 +226,21 @@ fn send_successor<S: Successors<L>, L: Ledger>(
     ensures lacks { OnErr result (PassesLong (S.shows lookup.entry.source.now)
         (S.instances lookup.entry.source.now)
         (get_or (names_of fitting.old.bindings) (length fitting.old.bindings - back) [])) }
-    ensures work { steps.new ≤ steps.old + most_lookups (S.shows lookup.entry.source.now)
-        (S.instances lookup.entry.source.now) }
+    ensures runs { IfOk result (λ taken. IsTrue taken →
+        AreRunsFor (S.shows lookup.entry.source.now) (S.instances lookup.entry.source.now) (S.at lookup.entry.source.now)
+        (S.is_there lookup.entry.source.now) (S.stands lookup.entry.source.now) most_successors (length fitting.new.bindings) hidden.new) }
+    ensures work { steps.new ≤ steps.old + 1 + hidden_left (S.shows lookup.entry.source.now)
+        (S.instances lookup.entry.source.now) hidden.old.runs.items }
+    ensures once { IfOk result (λ _. steps.new + hidden_left (S.shows lookup.entry.source.now)
+        (S.instances lookup.entry.source.now) hidden.new.runs.items
+        ≤ steps.old + 1 + hidden_left (S.shows lookup.entry.source.now)
+        (S.instances lookup.entry.source.now) hidden.old.runs.items) }
 {
     let Lookup { alloc, source } = lookup;
+    fitting.known();
     let before = fitting.name(back);
     let mut stand = *fitting.stand(back);
-    if find_next(alloc, source, before, &mut stand, spot, steps)? {
+    if find_next(alloc, source, before, &mut stand, spot, hidden, steps)? {
         return Ok(offer_instance(lookup, spot, stand, fitting));
     }
     Ok(fitting.offer_end(back, stand))
@@ -216,10 +253,13 @@ fn repeat_last<S: Successors<L>, L: Ledger>(
     columns: usize,
     fitting: &mut FittingBindings,
     spot: &mut Spot,
+    hidden: &mut HiddenRuns,
     steps: &mut Steps<L>,
 ) -> Result<bool, AllocError>
     requires stands { AreStands (S.stands lookup.source.now) fitting.old.stands
         (names_of fitting.old.bindings) }
+    requires runs { AreRunsFor (S.shows lookup.source.now) (S.instances lookup.source.now) (S.at lookup.source.now)
+        (S.is_there lookup.source.now) (S.stands lookup.source.now) most_successors (length fitting.old.bindings) hidden.old }
     requires columns { columns ≤ length fitting.old.bindings }
     ensures whole { let last = drop (length fitting.old.bindings - columns) fitting.old.bindings in
         IfOk result (λ whole. IsTrue whole →
@@ -234,14 +274,17 @@ fn repeat_last<S: Successors<L>, L: Ledger>(
     ensures stands { AreStands (S.stands lookup.entry.source.now) fitting.new.stands
         (names_of fitting.new.bindings) }
     ensures space { fitting.new.space ≡ fitting.old.space }
-    ensures work { let most = most_lookups (S.shows lookup.entry.source.now)
-        (S.instances lookup.entry.source.now) in
-        steps.new + length fitting.old.bindings * most
-        ≤ steps.old + (length fitting.new.bindings + 1) * most }
-    ensures whole_work { let most = most_lookups (S.shows lookup.entry.source.now)
-        (S.instances lookup.entry.source.now) in
-        IfOk result (λ whole. IsTrue whole →
-        steps.new + length fitting.old.bindings * most ≤ steps.old + length fitting.new.bindings * most) }
+    ensures work { steps.new + length fitting.old.bindings
+        ≤ steps.old + length fitting.new.bindings + 1 + hidden_left (S.shows lookup.entry.source.now)
+        (S.instances lookup.entry.source.now) hidden.old.runs.items }
+    ensures runs { IfOk result (λ whole. IsTrue whole →
+        AreRunsFor (S.shows lookup.entry.source.now) (S.instances lookup.entry.source.now) (S.at lookup.entry.source.now)
+        (S.is_there lookup.entry.source.now) (S.stands lookup.entry.source.now) most_successors (length fitting.new.bindings) hidden.new) }
+    ensures once { IfOk result (λ whole. IsTrue whole →
+        steps.new + length fitting.old.bindings + hidden_left (S.shows lookup.entry.source.now)
+        (S.instances lookup.entry.source.now) hidden.new.runs.items
+        ≤ steps.old + length fitting.new.bindings + hidden_left (S.shows lookup.entry.source.now)
+        (S.instances lookup.entry.source.now) hidden.old.runs.items) }
     ensures lacks { let last = drop (length fitting.old.bindings - columns) fitting.old.bindings in
         OnErr result (IsLacking (S.shows lookup.entry.source.now) (S.instances lookup.entry.source.now)
         (λ found. names_of last) fitting.old.bindings (fitting.old.bindings ++ next_answers
@@ -249,7 +292,7 @@ fn repeat_last<S: Successors<L>, L: Ledger>(
         fitting.new.bindings) }
 {
     for column in 0..columns {
-        if !send_successor(lookup, columns, fitting, spot, steps)? {
+        if !send_successor(lookup, columns, fitting, spot, hidden, steps)? {
             return Ok(false);
         }
     }
@@ -267,10 +310,13 @@ fn repeat_further<S: Successors<L>, L: Ledger>(
     most: u32,
     fitting: &mut FittingBindings,
     spot: &mut Spot,
+    hidden: &mut HiddenRuns,
     steps: &mut Steps<L>,
 ) -> Result<(), AllocError>
     requires stands { AreStands (S.stands lookup.source.now) fitting.old.stands
         (names_of fitting.old.bindings) }
+    requires runs { AreRunsFor (S.shows lookup.source.now) (S.instances lookup.source.now) (S.at lookup.source.now)
+        (S.is_there lookup.source.now) (S.stands lookup.source.now) most_successors (length fitting.old.bindings) hidden.old }
     requires columns { columns ≤ length fitting.old.bindings }
     ensures filled { let last = drop (length fitting.old.bindings - columns) fitting.old.bindings in
         OnOk result (IsFilled fitting.old.space (fitting.old.bindings ++ further
@@ -279,10 +325,9 @@ fn repeat_further<S: Successors<L>, L: Ledger>(
     ensures stands { AreStands (S.stands lookup.entry.source.now) fitting.new.stands
         (names_of fitting.new.bindings) }
     ensures space { fitting.new.space ≡ fitting.old.space }
-    ensures work { let most = most_lookups (S.shows lookup.entry.source.now)
-        (S.instances lookup.entry.source.now) in
-        steps.new + length fitting.old.bindings * most
-        ≤ steps.old + (length fitting.new.bindings + 1) * most }
+    ensures work { steps.new + length fitting.old.bindings
+        ≤ steps.old + length fitting.new.bindings + 1 + hidden_left (S.shows lookup.entry.source.now)
+        (S.instances lookup.entry.source.now) hidden.old.runs.items }
     ensures lacks { let last = drop (length fitting.old.bindings - columns) fitting.old.bindings in
         OnErr result (IsLacking (S.shows lookup.entry.source.now) (S.instances lookup.entry.source.now)
         (bulk_names (names_of last) 0) fitting.old.bindings (fitting.old.bindings ++ further
@@ -293,7 +338,7 @@ fn repeat_further<S: Successors<L>, L: Ledger>(
         if fitting.has_ended(columns) {
             return Ok(());
         }
-        if !repeat_last(lookup, columns, fitting, spot, steps)? {
+        if !repeat_last(lookup, columns, fitting, spot, hidden, steps)? {
             return Ok(());
         }
     }
@@ -307,10 +352,13 @@ fn repeat<S: Successors<L>, L: Ledger>(
     most: u32,
     fitting: &mut FittingBindings,
     spot: &mut Spot,
+    hidden: &mut HiddenRuns,
     steps: &mut Steps<L>,
 ) -> Result<(), AllocError>
     requires stands { AreStands (S.stands lookup.source.now) fitting.old.stands
         (names_of fitting.old.bindings) }
+    requires runs { AreRunsFor (S.shows lookup.source.now) (S.instances lookup.source.now) (S.at lookup.source.now)
+        (S.is_there lookup.source.now) (S.stands lookup.source.now) most_successors (length fitting.old.bindings) hidden.old }
     requires encodable { AreEncodable asked.now }
     ensures filled { OnOk result (IsFilled fitting.old.space (fitting.old.bindings ++ repetitions
         (visible (S.shows lookup.entry.source.now)
@@ -318,10 +366,9 @@ fn repeat<S: Successors<L>, L: Ledger>(
     ensures stands { AreStands (S.stands lookup.entry.source.now) fitting.new.stands
         (names_of fitting.new.bindings) }
     ensures space { fitting.new.space ≡ fitting.old.space }
-    ensures work { let most = most_lookups (S.shows lookup.entry.source.now)
-        (S.instances lookup.entry.source.now) in
-        steps.new + length fitting.old.bindings * most
-        ≤ steps.old + (length fitting.new.bindings + 1) * most }
+    ensures work { steps.new + length fitting.old.bindings
+        ≤ steps.old + length fitting.new.bindings + 1 + hidden_left (S.shows lookup.entry.source.now)
+        (S.instances lookup.entry.source.now) hidden.old.runs.items }
     ensures lacks { OnErr result (IsLacking (S.shows lookup.entry.source.now)
         (S.instances lookup.entry.source.now)
         (bulk_names (names_of asked.now) 0) fitting.old.bindings (fitting.old.bindings ++ repetitions
@@ -332,10 +379,10 @@ fn repeat<S: Successors<L>, L: Ledger>(
     if most == 0 {
         return Ok(());
     }
-    if !repeat_once(lookup, asked, fitting, spot, steps)? {
+    if !repeat_once(lookup, asked, fitting, spot, hidden, steps)? {
         return Ok(());
     }
-    repeat_further(lookup, asked.len(), most - 1, fitting, spot, steps)
+    repeat_further(lookup, asked.len(), most - 1, fitting, spot, hidden, steps)
 }
 
 // Sends the first `once` names once, and the others up to `most` times, as far as they fit.
@@ -346,10 +393,13 @@ fn send_list<S: Successors<L>, L: Ledger>(
     asked: &[Binding],
     fitting: &mut FittingBindings,
     spot: &mut Spot,
+    hidden: &mut HiddenRuns,
     steps: &mut Steps<L>,
 ) -> Result<(), AllocError>
     requires stands { AreStands (S.stands lookup.source.now) fitting.old.stands
         (names_of fitting.old.bindings) }
+    requires runs { AreRunsFor (S.shows lookup.source.now) (S.instances lookup.source.now) (S.at lookup.source.now)
+        (S.is_there lookup.source.now) (S.stands lookup.source.now) most_successors (length fitting.old.bindings) hidden.old }
     requires once { once ≤ length asked.now }
     requires encodable { AreEncodable asked.now }
     ensures filled { OnOk result (IsFilled fitting.old.space (fitting.old.bindings ++ bulk_list
@@ -358,10 +408,9 @@ fn send_list<S: Successors<L>, L: Ledger>(
     ensures stands { AreStands (S.stands lookup.entry.source.now) fitting.new.stands
         (names_of fitting.new.bindings) }
     ensures space { fitting.new.space ≡ fitting.old.space }
-    ensures work { let most = most_lookups (S.shows lookup.entry.source.now)
-        (S.instances lookup.entry.source.now) in
-        steps.new + length fitting.old.bindings * most
-        ≤ steps.old + (length fitting.new.bindings + 1) * most }
+    ensures work { steps.new + length fitting.old.bindings
+        ≤ steps.old + length fitting.new.bindings + 1 + hidden_left (S.shows lookup.entry.source.now)
+        (S.instances lookup.entry.source.now) hidden.old.runs.items }
     ensures lacks { OnErr result (IsLacking (S.shows lookup.entry.source.now)
         (S.instances lookup.entry.source.now)
         (bulk_names (names_of asked.now) once) fitting.old.bindings (fitting.old.bindings ++ bulk_list
@@ -370,10 +419,10 @@ fn send_list<S: Successors<L>, L: Ledger>(
         fitting.new.bindings) }
 {
     let (first, columns) = asked.split_at(once);
-    if !repeat_once(lookup, first, fitting, spot, steps)? {
+    if !repeat_once(lookup, first, fitting, spot, hidden, steps)? {
         return Ok(());
     }
-    repeat(lookup, columns, most, fitting, spot, steps)
+    repeat(lookup, columns, most, fitting, spot, hidden, steps)
 }
 
 // A number of a request as a count, 0 where it is negative.
@@ -416,15 +465,16 @@ fn binding_number(once: usize, columns: usize, before: usize) -> usize
 /// What GetBulk answers (RFC 3416, 4.2.3): the longest front of the list that it asks for whose
 /// reply has at most `MAX_REPLY`, 1,472, octets.
 ///
-/// Each lookup at the source is a step. There are at most `most_lookups` for each binding that is sent,
-/// and for one more, whatever max-repetitions says; so at most `most_successors`, 246, times as
-/// many, also where memory fails. `most_lookups` is one more than the instances that the view hides.
+/// Each lookup at the source is a step. There is at most one for each binding that is sent, one more, and one
+/// for each instance that the view hides, whatever max-repetitions says; so at most `most_successors`, 246,
+/// and one for each hidden instance, also where memory fails. A hidden instance that the walk of one name has
+/// passed is not passed again.
 ///
 /// # Errors
 /// `Shortage::Name(i)`: the binding that is to be sent next answers the request's binding i, from 1 on, in
 /// later repetitions that of its column; and there was no memory for a name above `INLINE_NUMBERS`, 24,
 /// numbers, that of an instance that its walk passes or ends at. `Shortage::Other` ahead of any lookup, where
-/// there is no memory for the list.
+/// there is no memory for the list, or for what is kept of the hidden instances that are passed.
 pub fn get_bulk<S: Successors<L>, L: Ledger>(
     alloc: Global,
     source: &S,
@@ -441,6 +491,10 @@ pub fn get_bulk<S: Successors<L>, L: Ledger>(
         IfOk result (λ fitting. steps.new ≤ steps.old + (length fitting + 1) * most) }
     ensures most_work { steps.new ≤ steps.old + most_successors * most_lookups (S.shows source.now)
         (S.instances source.now) }
+    ensures once { IfOk result (λ fitting. steps.new ≤ steps.old + length fitting + 1
+        + hidden_count (S.shows source.now) (S.instances source.now)) }
+    ensures most_once { steps.new ≤ steps.old + most_successors
+        + hidden_count (S.shows source.now) (S.instances source.now) }
     ensures lacks { IfErr result (IfName
         (LacksBulkName (S.shows source.now) (S.instances source.now) request.now)) }
     ensures other { result ≡ Err Shortage.Other → steps.new ≡ steps.old }
@@ -450,9 +504,19 @@ pub fn get_bulk<S: Successors<L>, L: Ledger>(
     let most = max_repetitions(request);
     let columns = asked.len() - once;
     let mut fitting = FittingBindings::new(alloc, bindings_space(request))?;
+    let mut hidden = HiddenRuns::with_capacity(alloc, MOST_SUCCESSORS)?;
     let mut spot = Spot::new();
     let lookup = Lookup { alloc, source };
-    let filled = send_list(lookup, once, most, asked, &mut fitting, &mut spot, steps);
+    let filled = send_list(
+        lookup,
+        once,
+        most,
+        asked,
+        &mut fitting,
+        &mut spot,
+        &mut hidden,
+        steps,
+    );
     let before = fitting.len();
     let bindings = fitting.into_bindings();
     if filled.is_err() {

@@ -1,5 +1,5 @@
 //! The bindings of a GetBulk that fit so far (RFC 3416, 4.2.3).
-ghost use Rattle.std.specs.Prelude.{◌≡◌, ◌≤◌, ◌+◌, ◌-◌, ◌++◌, vec_capacity, [], ◌∷◌, IfOk, IsTrue, false, length, drop, get_or, slice_get, Some};
+ghost use Rattle.std.specs.Prelude.{◌≡◌, ◌<◌, ◌≤◌, ◌+◌, ◌-◌, ◌++◌, vec_capacity, [], ◌∷◌, IfOk, IsTrue, false, length, drop, get_or, slice_get, Some};
 ghost use Rattle.std.specs.List.{list_all};
 ghost use Rattle.oid_core.specs.Name.{HasRoot};
 ghost use Rattle.oid_core.specs.declared.limits.TheConstants.{MAX_NUMBERS};
@@ -8,17 +8,21 @@ ghost use Rattle.message_core.specs.Encodable.{IsEncodableBinding, AreEncodable}
 ghost use Rattle.message_core.specs.declared.limits.TheConstants.{MAX_REPLY};
 ghost use Rattle.agent_core.specs.Reading.{end_under};
 ghost use Rattle.agent_core.specs.Bulk.{all_end, is_end};
-ghost use Rattle.agent_core.specs.Fitting.{total, fit_into};
+ghost use Rattle.agent_core.specs.Fitting.{total, fit_into, most_successors};
 
 use crate::sent_binding::SentBinding;
 use crate::source::Stand;
-use message_core::{EncodedBindings, Value};
+use message_core::{EncodedBindings, MAX_REPLY, Value};
 use oid_core::MAX_NUMBERS;
 use std::alloc::{AllocError, Global};
 use std::marker::Model;
 
 // How many octets a binding has at least: its head, and the heads of its name and its value.
 const LEAST_BINDING: usize = 6;
+
+/// How many successors need to be found at most for the bindings that fit: one for each, and one that does
+/// not fit.
+pub const MOST_SUCCESSORS: usize = MAX_REPLY / LEAST_BINDING + 1;
 
 /// The bindings of a GetBulk's reply so far, and the octets that they may have (RFC 3416, 4.2.3: as
 /// many as fit).
@@ -158,6 +162,13 @@ impl FittingBindings {
             stand,
         });
         true
+    }
+
+    /// Hands on that few bindings fit. It does nothing, and only proofs want it.
+    pub fn known(&self)
+        ensures { length self.now.bindings < most_successors }
+    {
+        let _space = self.space;
     }
 
     /// How many bindings there are.

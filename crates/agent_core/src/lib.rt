@@ -15,7 +15,8 @@
 //! a name, or is known to; each next instance is a step. A [`Source`] can also be asked for the object and
 //! the value of a name. The value of an instance is made where it is sent. Its name is made where GetNext
 //! sends it, where Get compares it with an object, where the view is asked, and to go on behind a hidden
-//! instance. A walk stands at a name ([`Stand`]): at the place of the name among the objects, and knows of
+//! instance. The hidden instances that a walk passes are kept as a run (`HiddenRuns`), and no other walk of
+//! the request passes them again. A walk stands at a name ([`Stand`]): at the place of the name among the objects, and knows of
 //! those from there on how far the view shows them whole. Each column of a GetBulk walks by itself. A
 //! GetBulk lends its walks one spot, in which they write where an instance stands. Each binding is encoded
 //! at once, behind those that are to be sent. The numbers of its name stand behind those of the names before
@@ -29,6 +30,7 @@
 //! kind, and the size rule; `specs/Sets.antt`: what a Set becomes; `specs/Reading.antt`: what is
 //! visible, Get and GetNext; `specs/Making.antt`: what a walk found, as a binding;
 //! `specs/Lookups.antt`: the lookups that a successor takes, and for which names it takes memory;
+//! `specs/Hidden.antt`: runs of hidden instances, and how many of these are in none;
 //! `specs/Lacking.antt`: for which binding that is; `specs/Bulk.antt`, `specs/Fitting.antt`: GetBulk;
 //! `specs/Denying.antt`: denied bindings; `specs/Buffered.antt`: what a buffer holds;
 //! `specs/Sending.antt`: a GetBulk's bindings that are to be sent, what is kept of each, and where
@@ -57,6 +59,7 @@ mod bulk;
 mod denying;
 mod fitting;
 mod getting;
+mod hidden;
 pub mod laws;
 mod nexts;
 mod reading;

@@ -1,5 +1,5 @@
 //! What stands for an event a second time, since its entry and its receipt each have it.
-ghost use Rattle.std.specs.Prelude.{◌≡◌, ◌≢◌, ◌↔◌, ◌≤◌, ◌<◌, [], length, IsTrue, IfOk, OnErr, MatchOption};
+ghost use Rattle.std.specs.Prelude.{◌≡◌, ◌≢◌, ◌↔◌, ◌≤◌, ◌<◌, [], length, IsTrue, IsSome, IfOk, OnErr, MatchOption};
 ghost use Rattle.message_core.specs.Canon.{canon_request};
 ghost use Rattle.message_core.specs.Encodable.{AreEncodable};
 ghost use Rattle.message_core.specs.declared.limits.TheConstants.{MAX_REQUEST};
@@ -89,6 +89,8 @@ fn encoding_over(
     ensures value { IfOk result (λ found. MatchOption found
         (length space.old < length (canon_request request.now))
         (λ octets. IsEncodingOf octets request.now)) }
+    ensures fits { IfOk result (λ found. IsSome found →
+        length (canon_request request.now) ≤ length space.old) }
 {
     known_request(request);
     match encode_request(request, space) {

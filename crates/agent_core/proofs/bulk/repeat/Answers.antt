@@ -34,3 +34,9 @@ pub returns-clause-lacks : goal.returns-clause-lacks
 returns-clause-lacks g c =
     later_lack (g.S.View.shows c.args.lookup.source.now) (g.S.Successors.instances c.args.lookup.source.now) c.repeat_further.result (names_of c.args.asked.now) c.args.most (c.args.most - 1) (length c.args.asked.now) c.args.fitting.now.bindings c.repeat_once.new.fitting.bindings c.repeat_further.new.fitting.bindings (omega arith)
     (sym (names-length c.args.asked.now)) (c.in_ok-repeat_once.ensures.whole c.if-not-branch.false) c.repeat_further.ensures.lacks
+
+pub repeat_further-requires-clause-runs : goal.repeat_further-requires-clause-runs
+repeat_further-requires-clause-runs g c = c.in_ok-repeat_once.ensures.runs c.if-not-branch.false
+
+pub returns-clause-work : goal.returns-clause-work
+returns-clause-work g c = omega (arith, c.in_ok-repeat_once.ensures.once c.if-not-branch.false, c.repeat_further.ensures.work)

@@ -2,8 +2,6 @@ use Rattle.std.proofs.Common.{◌≡◌, ◌∙◌, ◌++◌, ◌-◌, ◌+◌, 
 use Rattle.message_core.specs.Instances.{names_of}
 use Rattle.agent_core.specs.Reading.{visible, next_answers}
 use Rattle.agent_core.proofs.Fits.{repeat_cut, repeat_more, further_ended, further_going, further_done, last_count, last_names}
-use Rattle.agent_core.specs.Lookups.{most_lookups}
-use Rattle.agent_core.proofs.LookupLemmas.{beside_within}
 use Rattle.setphase_core.proofs.States.{on_err_always}
 use Rattle.agent_core.proofs.Lackings.{further_lacks, grown_none, grown_more}
 use Rattle.agent_core.proofs.bulk.repeat_further.Goals as goal
@@ -27,7 +25,8 @@ loop-i-preserved g c =
       all = repeat_more (visible (g.S.View.shows c.args.lookup.source.now) (g.S.Successors.instances c.args.lookup.source.now)) (c.args.most - c.loop-i.i) (c.args.most - (c.loop-i.i + 1)) c.args.columns (names_of (drop (length c.loop-i.fitting.bindings - c.args.columns) c.loop-i.fitting.bindings)) _ c.loop-i.fitting.bindings c.repeat_last.new.fitting.bindings (omega (arith, c.loop-i-test.true)) (further_going (visible (g.S.View.shows c.args.lookup.source.now) (g.S.Successors.instances c.args.lookup.source.now)) (c.args.most - c.loop-i.i) (drop (length c.loop-i.fitting.bindings - c.args.columns) c.loop-i.fitting.bindings) _ c.loop-i.fitting.bindings c.loop-i.invariant.all (sym c.has_ended.ensures ∙ c.if-has_ended.false)) is count;
       stands = c.in_ok-repeat_last.ensures.stands;
       space = search rules;
-      work = omega (arith, c.loop-i.invariant.work, c.in_ok-repeat_last.ensures.whole_work whole);
+      work = omega (arith, c.loop-i.invariant.work, c.in_ok-repeat_last.ensures.once whole);
+      runs = c.in_ok-repeat_last.ensures.runs whole;
       grown = grown_more c.args.fitting.now.bindings c.loop-i.fitting.bindings (next_answers (visible (g.S.View.shows c.args.lookup.source.now) (g.S.Successors.instances c.args.lookup.source.now)) (names_of (drop (length c.loop-i.fitting.bindings - c.args.columns) c.loop-i.fitting.bindings))) c.repeat_last.new.fitting.bindings c.loop-i.invariant.grown is;
       columns = last_count (visible (g.S.View.shows c.args.lookup.source.now) (g.S.Successors.instances c.args.lookup.source.now)) (names_of (drop (length c.loop-i.fitting.bindings - c.args.columns) c.loop-i.fitting.bindings)) c.args.columns c.loop-i.fitting.bindings c.repeat_last.new.fitting.bindings count is;
     }
@@ -38,7 +37,7 @@ returns-clause-filled g c =
 
 pub returns-clause-work : goal.returns-clause-work
 returns-clause-work g c =
-    beside_within c.args.steps.now c.loop-i.steps (length c.args.fitting.now.bindings) (length c.loop-i.fitting.bindings) (most_lookups (g.S.View.shows c.args.lookup.source.now) (g.S.Successors.instances c.args.lookup.source.now)) c.loop-i.invariant.work
+    omega (arith, c.loop-i.invariant.work)
 
 pub loop-i-init : goal.loop-i-init
 loop-i-init g c = record {
@@ -46,6 +45,7 @@ loop-i-init g c = record {
   stands = c.requires.stands;
   space = refl;
   work = omega arith;
+  runs = c.requires.runs;
   columns = c.requires.columns;
   grown = grown_none c.args.fitting.now.bindings;
 }

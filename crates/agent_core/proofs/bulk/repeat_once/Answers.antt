@@ -4,8 +4,9 @@ use Rattle.message_core.specs.Encodable.{IsEncodableBinding}
 use Rattle.message_core.specs.Instances.{names_of}
 use Rattle.agent_core.specs.Reading.{visible, next_answer}
 use Rattle.agent_core.proofs.Fits.{all_at, once_cut, once_more, names-at, names-length}
-use Rattle.agent_core.specs.Lookups.{most_lookups, PassesLong}
-use Rattle.agent_core.proofs.LookupLemmas.{beside_within, pushed_lookups, cut_lookups}
+use Rattle.agent_core.specs.Lookups.{PassesLong}
+use Rattle.agent_core.specs.Hidden.{hidden_left}
+use Rattle.agent_core.proofs.LookupLemmas.{pushed_lookups, cut_lookups}
 use Rattle.setphase_core.proofs.States.{on_err_always}
 use Rattle.agent_core.proofs.Lackings.{once_lacks}
 use Rattle.agent_core.proofs.bulk.repeat_once.Goals as goal
@@ -28,27 +29,24 @@ loop-binding-preserved g c = record {
   stands = c.in_ok-send_next.ensures.stands;
   space = search rules;
   work =
-      pushed_lookups c.args.steps.now c.loop-binding.steps c.send_next.new.steps (most_lookups (g.S.View.shows c.args.lookup.source.now) (g.S.Successors.instances c.args.lookup.source.now))
-      c.args.fitting.now.bindings c.loop-binding.fitting.bindings c.send_next.new.fitting.bindings (next_answer (visible (g.S.View.shows c.args.lookup.source.now) (g.S.Successors.instances c.args.lookup.source.now)) c.binding-item.result.name)
-      c.loop-binding.invariant.work c.in_ok-send_next.ensures.work (search rules);
+      pushed_lookups c.args.steps.now c.loop-binding.steps c.send_next.new.steps (length c.args.fitting.now.bindings) (hidden_left (g.S.View.shows c.args.lookup.source.now) (g.S.Successors.instances c.args.lookup.source.now) c.args.hidden.now.runs.items) (hidden_left (g.S.View.shows c.args.lookup.source.now) (g.S.Successors.instances c.args.lookup.source.now) c.loop-binding.hidden.runs.items) (hidden_left (g.S.View.shows c.args.lookup.source.now) (g.S.Successors.instances c.args.lookup.source.now) c.send_next.new.hidden.runs.items)
+      c.loop-binding.fitting.bindings c.send_next.new.fitting.bindings (next_answer (visible (g.S.View.shows c.args.lookup.source.now) (g.S.Successors.instances c.args.lookup.source.now)) c.binding-item.result.name)
+      c.loop-binding.invariant.work c.in_ok-send_next.ensures.once (search rules);
+  runs = c.in_ok-send_next.ensures.runs (search rules);
 }
 
 pub returns-in_err-send_next-clause-work : goal.returns-in_err-send_next-clause-work
 returns-in_err-send_next-clause-work g c =
-    cut_lookups c.args.steps.now c.loop-binding.steps c.send_next.new.steps (most_lookups (g.S.View.shows c.args.lookup.source.now) (g.S.Successors.instances c.args.lookup.source.now))
-    c.args.fitting.now.bindings c.loop-binding.fitting.bindings c.send_next.new.fitting.bindings c.loop-binding.invariant.work (search rules) (search rules)
+    cut_lookups c.args.steps.now c.loop-binding.steps c.send_next.new.steps (length c.args.fitting.now.bindings) (hidden_left (g.S.View.shows c.args.lookup.source.now) (g.S.Successors.instances c.args.lookup.source.now) c.args.hidden.now.runs.items) (hidden_left (g.S.View.shows c.args.lookup.source.now) (g.S.Successors.instances c.args.lookup.source.now) c.loop-binding.hidden.runs.items)
+    c.loop-binding.fitting.bindings c.send_next.new.fitting.bindings c.loop-binding.invariant.work (search rules) (search rules)
 
 pub returns-then-not-branch-clause-work : goal.returns-then-not-branch-clause-work
 returns-then-not-branch-clause-work g c =
-    cut_lookups c.args.steps.now c.loop-binding.steps c.send_next.new.steps (most_lookups (g.S.View.shows c.args.lookup.source.now) (g.S.Successors.instances c.args.lookup.source.now))
-    c.args.fitting.now.bindings c.loop-binding.fitting.bindings c.send_next.new.fitting.bindings c.loop-binding.invariant.work (search rules) (search rules)
+    cut_lookups c.args.steps.now c.loop-binding.steps c.send_next.new.steps (length c.args.fitting.now.bindings) (hidden_left (g.S.View.shows c.args.lookup.source.now) (g.S.Successors.instances c.args.lookup.source.now) c.args.hidden.now.runs.items) (hidden_left (g.S.View.shows c.args.lookup.source.now) (g.S.Successors.instances c.args.lookup.source.now) c.loop-binding.hidden.runs.items)
+    c.loop-binding.fitting.bindings c.send_next.new.fitting.bindings c.loop-binding.invariant.work (search rules) (search rules)
 
 pub returns-clause-work : goal.returns-clause-work
-returns-clause-work g c =
-    beside_within c.args.steps.now c.loop-binding.steps (length c.args.fitting.now.bindings) (length c.loop-binding.fitting.bindings) (most_lookups (g.S.View.shows c.args.lookup.source.now) (g.S.Successors.instances c.args.lookup.source.now)) c.loop-binding.invariant.work
-
-pub returns-clause-whole_work : goal.returns-clause-whole_work
-returns-clause-whole_work g c = λ _. c.loop-binding.invariant.work
+returns-clause-work g c = omega (arith, c.loop-binding.invariant.work)
 
 pub returns-in_err-send_next-clause-lacks : goal.returns-in_err-send_next-clause-lacks
 returns-in_err-send_next-clause-lacks g c =

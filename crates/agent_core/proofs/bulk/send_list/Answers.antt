@@ -1,4 +1,4 @@
-use Rattle.std.proofs.Common.{◌++◌, ap, sym, subst, List}
+use Rattle.std.proofs.Common.{◌++◌, ap, sym, subst, List, arith}
 use Rattle.message_core.specs.Encodable.{IsEncodableBinding, AreEncodable}
 use Rattle.message_core.specs.declared.binding.Binding.{Binding}
 use Rattle.message_core.specs.Instances.{names_of}
@@ -40,3 +40,9 @@ pub returns-clause-lacks : goal.returns-clause-lacks
 returns-clause-lacks g c =
     columns_lacks (g.S.View.shows c.args.lookup.source.now) (g.S.Successors.instances c.args.lookup.source.now) c.repeat.result c.args.once c.args.most c.args.asked.now c.split_at.result.0.now c.split_at.result.1.now c.args.fitting.now.bindings c.repeat_once.new.fitting.bindings c.repeat.new.fitting.bindings
     c.requires.once c.split_at.ensures.front c.split_at.ensures.back (c.in_ok-repeat_once.ensures.whole c.if-not-branch.false) c.repeat.ensures.lacks
+
+pub repeat-requires-clause-runs : goal.repeat-requires-clause-runs
+repeat-requires-clause-runs g c = c.in_ok-repeat_once.ensures.runs c.if-not-branch.false
+
+pub returns-clause-work : goal.returns-clause-work
+returns-clause-work g c = omega (arith, c.in_ok-repeat_once.ensures.once c.if-not-branch.false, c.repeat.ensures.work)

@@ -1,8 +1,9 @@
-use Rattle.std.proofs.Common.{◌≡◌, ◌∙◌, ◌++◌, [], ◌∷◌, List, Bool, cond, IsTrue, sym, ap, subst, append-nil}
+use Rattle.std.proofs.Common.{arith, ◌≡◌, ◌∙◌, ◌++◌, [], ◌∷◌, List, Bool, cond, IsTrue, sym, ap, subst, append-nil}
 use Rattle.message_core.specs.declared.binding.Binding.{Binding}
 use Rattle.agent_core.specs.Reading.{visible, end_under, next_answer}
 use Rattle.agent_core.specs.Fitting.{fit_into}
 use Rattle.agent_core.proofs.Stands.{offered}
+use Rattle.agent_core.proofs.HiddenWalks.{runs_for}
 use Rattle.std.specs.Prelude.{Result, Ok}
 use Rattle.std.specs.declared.alloc.AllocError.{AllocError}
 use Rattle.agent_core.proofs.bulk.send_next.Goals as goal
@@ -57,3 +58,28 @@ returns-clause-stands g c =
     offered (g.S.Successors.stands c.args.lookup.source.now) taken c.args.fitting.now c.offer.new.self (end_under (c.args.name.now ++ [])) c.find_next.new.stand c.requires.stands
     (subst (g.S.Successors.stands c.args.lookup.source.now c.find_next.new.stand) (sym (append-nil c.args.name.now)) stood)
     c.offer.ensures.taken c.offer.ensures.stand c.offer.ensures.full tt
+
+-- what was passed
+
+pub find_next-requires-clause-runs : goal.find_next-requires-clause-runs
+find_next-requires-clause-runs g c = c.requires.runs.runs
+
+pub returns-then-branch-clause-once : goal.returns-then-branch-clause-once
+returns-then-branch-clause-once g c = c.in_ok-find_next.ensures.once (omega (arith, c.requires.runs.few, c.known.ensures, c.requires.runs.space))
+
+pub returns-clause-once : goal.returns-clause-once
+returns-clause-once g c = c.in_ok-find_next.ensures.once (omega (arith, c.requires.runs.few, c.known.ensures, c.requires.runs.space))
+
+pub returns-then-branch-clause-runs : goal.returns-then-branch-clause-runs
+returns-then-branch-clause-runs g c = λ taken.
+    runs_for (g.S.View.shows c.args.lookup.source.now) (g.S.Successors.instances c.args.lookup.source.now) (g.S.Successors.at c.args.lookup.source.now)
+    (g.S.Successors.is_there c.args.lookup.source.now) (g.S.Successors.stands c.args.lookup.source.now)
+    _ c.args.hidden.now c.find_next.new.hidden c.args.fitting.now.bindings c.offer_instance.new.fitting.bindings _ c.requires.runs c.in_ok-find_next.ensures.runs c.in_ok-find_next.ensures.grown c.in_ok-find_next.ensures.capacity
+    (c.offer_instance.ensures.taken taken)
+
+pub returns-clause-runs : goal.returns-clause-runs
+returns-clause-runs g c = λ taken.
+    runs_for (g.S.View.shows c.args.lookup.source.now) (g.S.Successors.instances c.args.lookup.source.now) (g.S.Successors.at c.args.lookup.source.now)
+    (g.S.Successors.is_there c.args.lookup.source.now) (g.S.Successors.stands c.args.lookup.source.now)
+    _ c.args.hidden.now c.find_next.new.hidden c.args.fitting.now.bindings c.offer.new.self.bindings _ c.requires.runs c.in_ok-find_next.ensures.runs c.in_ok-find_next.ensures.grown c.in_ok-find_next.ensures.capacity
+    (c.offer.ensures.taken taken)

@@ -1,9 +1,10 @@
-use Rattle.std.proofs.Common.{◌≡◌, ◌∙◌, ◌-◌, ◌++◌, [], ◌∷◌, List, Bool, ℕ, cond, IsTrue, ap, subst, length, get_or}
+use Rattle.std.proofs.Common.{arith, ◌≡◌, ◌∙◌, ◌-◌, ◌++◌, [], ◌∷◌, List, Bool, ℕ, cond, IsTrue, ap, subst, length, get_or}
 use Rattle.message_core.specs.declared.binding.Binding.{Binding}
 use Rattle.message_core.specs.Instances.{names_of}
 use Rattle.agent_core.specs.Reading.{visible, end_under, next_answer}
 use Rattle.agent_core.specs.Fitting.{fit_into}
 use Rattle.agent_core.proofs.Stands.{offered}
+use Rattle.agent_core.proofs.HiddenWalks.{runs_for}
 use Rattle.std.specs.Prelude.{Result, Ok}
 use Rattle.std.specs.declared.alloc.AllocError.{AllocError}
 use Rattle.setphase_core.proofs.States.{on_err_always}
@@ -73,3 +74,28 @@ pub returns-in_err-find_next-clause-lacks : goal.returns-in_err-find_next-clause
 returns-in_err-find_next-clause-lacks g c =
     let name : c.name-before.result.now ≡ get_or (names_of c.args.fitting.now.bindings) (length c.args.fitting.now.bindings - c.args.back) [] = c.name-before.ensures.value in
     on_err_always c.from_residual.result (subst (PassesLong (g.S.View.shows c.args.lookup.source.now) (g.S.Successors.instances c.args.lookup.source.now)) name c.in_err-find_next.ensures.lacks)
+
+-- what was passed
+
+pub find_next-requires-clause-runs : goal.find_next-requires-clause-runs
+find_next-requires-clause-runs g c = c.requires.runs.runs
+
+pub returns-then-branch-clause-once : goal.returns-then-branch-clause-once
+returns-then-branch-clause-once g c = c.in_ok-find_next.ensures.once (omega (arith, c.requires.runs.few, c.known.ensures, c.requires.runs.space))
+
+pub returns-clause-once : goal.returns-clause-once
+returns-clause-once g c = c.in_ok-find_next.ensures.once (omega (arith, c.requires.runs.few, c.known.ensures, c.requires.runs.space))
+
+pub returns-then-branch-clause-runs : goal.returns-then-branch-clause-runs
+returns-then-branch-clause-runs g c = λ taken.
+    runs_for (g.S.View.shows c.args.lookup.source.now) (g.S.Successors.instances c.args.lookup.source.now) (g.S.Successors.at c.args.lookup.source.now)
+    (g.S.Successors.is_there c.args.lookup.source.now) (g.S.Successors.stands c.args.lookup.source.now)
+    _ c.args.hidden.now c.find_next.new.hidden c.args.fitting.now.bindings c.offer_instance.new.fitting.bindings _ c.requires.runs c.in_ok-find_next.ensures.runs c.in_ok-find_next.ensures.grown c.in_ok-find_next.ensures.capacity
+    (c.offer_instance.ensures.taken taken)
+
+pub returns-clause-runs : goal.returns-clause-runs
+returns-clause-runs g c = λ taken.
+    runs_for (g.S.View.shows c.args.lookup.source.now) (g.S.Successors.instances c.args.lookup.source.now) (g.S.Successors.at c.args.lookup.source.now)
+    (g.S.Successors.is_there c.args.lookup.source.now) (g.S.Successors.stands c.args.lookup.source.now)
+    _ c.args.hidden.now c.find_next.new.hidden c.args.fitting.now.bindings c.offer_end.new.self.bindings _ c.requires.runs c.in_ok-find_next.ensures.runs c.in_ok-find_next.ensures.grown c.in_ok-find_next.ensures.capacity
+    (c.offer_end.ensures.taken taken)

@@ -1,36 +1,133 @@
-use Rattle.std.proofs.Common.{◌≡◌, ◌∙◌, ap, sym, cond, false, Some, None}
+use Rattle.std.proofs.Common.{◌≡◌, ◌∙◌, List, ℕ, Bool, true, false, cond, Option, Some, None, IfOk, sym, ap, subst, arith}
 use Rattle.setphase_core.specs.declared.passing.Spot.{Spot}
+use Rattle.setphase_core.proofs.States.{on_err_always}
 use Rattle.message_core.specs.declared.binding.Binding.{Binding}
 use Rattle.message_core.specs.Instances.{next_of}
-use Rattle.agent_core.proofs.Walking.{begins, goes_further, fewer_left}
+use Rattle.agent_core.specs.Reading.{visible}
+use Rattle.agent_core.proofs.Lacks.{least_after, passed_first}
+use Rattle.agent_core.proofs.HiddenWalks.{next_here, next_none, next_past, left_most, passed_answer}
 use Rattle.agent_core.proofs.reading.next_named.Goals as goal
 
-pub loop-found-init : goal.loop-found-init
-loop-found-init g c =
-    let next = c.next-found in
-    begins (g.S.View.shows c.args.source.now) (g.S.Successors.instances c.args.source.now) (g.S.Successors.at c.args.source.now)
-    (g.S.Successors.is_there c.args.source.now) (g.S.Successors.stands c.args.source.now)
-    c.args.name.now next.result next.new.spot next.new.stand c.args.steps.now next.new.steps
-    c.known.ensures.rising next.ensures.found next.ensures.there next.ensures.stands next.ensures.work
-
-pub loop-found-smaller : goal.loop-found-smaller
-loop-found-smaller g c =
-    let next = c.next-found-in-loop-found in
-    let named : c.as_slice.result.now ≡ (g.S.Successors.at c.args.source.now c.loop-found.spot).name = c.as_slice.ensures.value ∙ c.in_ok-own.ensures.name in
-    fewer_left (g.S.View.shows c.args.source.now) (g.S.Successors.instances c.args.source.now) (g.S.Successors.at c.args.source.now)
-    (g.S.Successors.is_there c.args.source.now) (g.S.Successors.stands c.args.source.now)
-    c.loop-found.found next.result c.loop-found.spot next.new.spot
-    c.known.ensures.rising c.loop-found-test.true (next.ensures.found ∙ ap (next_of (g.S.Successors.instances c.args.source.now)) named)
-
-pub loop-found-preserved : goal.loop-found-preserved
-loop-found-preserved g c =
-    let shows = g.S.View.shows c.args.source.now in
-    let rows = g.S.Successors.instances c.args.source.now in
+pub returns-then-not-next-clause-found : goal.returns-then-not-next-clause-found
+returns-then-not-next-clause-found g c =
+    let shows : List ℕ → Bool = g.S.View.shows c.args.source.now in
+    let rows : List Binding = g.S.Successors.instances c.args.source.now in
     let at : Spot → Binding = g.S.Successors.at c.args.source.now in
-    let next = c.next-found-in-loop-found in
-    let named : c.as_slice.result.now ≡ (at c.loop-found.spot).name = c.as_slice.ensures.value ∙ c.in_ok-own.ensures.name in
-    let hidden : shows (at c.loop-found.spot).name ≡ false = ap shows (sym c.in_ok-own.ensures.name) ∙ (sym c.has_name.ensures ∙ c.if-has_name.false) in
-    goes_further shows rows at (g.S.Successors.is_there c.args.source.now) (g.S.Successors.stands c.args.source.now)
-    c.args.name.now c.loop-found.found next.result c.loop-found.spot next.new.spot c.loop-found.stand next.new.stand c.loop-found.steps next.new.steps _
-    c.known.ensures.rising c.loop-found.invariant c.loop-found-test.true hidden (next.ensures.found ∙ ap (next_of rows) named)
-    next.ensures.there next.ensures.stands next.ensures.work
+    let here : next_of rows c.args.name.now ≡ None = sym c.next.ensures.found ∙ ap (λ (b : Bool). cond b (Some (at c.next.new.spot)) None) c.if-not-next.true in
+    next_none shows rows c.args.name.now c.known.ensures.rising here
+
+pub returns-then-not-next-clause-work : goal.returns-then-not-next-clause-work
+returns-then-not-next-clause-work g c =
+    let shows : List ℕ → Bool = g.S.View.shows c.args.source.now in
+    let rows : List Binding = g.S.Successors.instances c.args.source.now in
+    let at : Spot → Binding = g.S.Successors.at c.args.source.now in
+    omega (arith, c.next.ensures.work, left_most shows rows c.args.hidden.now.runs.items)
+
+pub returns-in_err-own-clause-work : goal.returns-in_err-own-clause-work
+returns-in_err-own-clause-work g c =
+    let shows : List ℕ → Bool = g.S.View.shows c.args.source.now in
+    let rows : List Binding = g.S.Successors.instances c.args.source.now in
+    let at : Spot → Binding = g.S.Successors.at c.args.source.now in
+    omega (arith, c.next.ensures.work, left_most shows rows c.args.hidden.now.runs.items)
+
+pub returns-in_err-own-clause-lacks : goal.returns-in_err-own-clause-lacks
+returns-in_err-own-clause-lacks g c =
+    let shows : List ℕ → Bool = g.S.View.shows c.args.source.now in
+    let rows : List Binding = g.S.Successors.instances c.args.source.now in
+    let at : Spot → Binding = g.S.Successors.at c.args.source.now in
+    on_err_always c.from_residual.result (record { row = at c.next.new.spot; passed = passed_first shows rows c.args.name.now c.next.result (at c.next.new.spot) c.known.ensures.rising c.next.ensures.found c.if-not-next.false; long = c.in_err-own.ensures.long })
+
+pub returns-then-has_name-clause-found : goal.returns-then-has_name-clause-found
+returns-then-has_name-clause-found g c =
+    let shows : List ℕ → Bool = g.S.View.shows c.args.source.now in
+    let rows : List Binding = g.S.Successors.instances c.args.source.now in
+    let at : Spot → Binding = g.S.Successors.at c.args.source.now in
+    let here : next_of rows c.args.name.now ≡ Some (at c.next.new.spot) = sym c.next.ensures.found ∙ ap (λ (b : Bool). cond b (Some (at c.next.new.spot)) None) c.if-not-next.false in
+    let shown : shows (at c.next.new.spot).name ≡ true = ap shows (sym c.in_ok-own.ensures.name) ∙ sym c.has_name.ensures ∙ c.if-has_name.true in
+    next_here shows rows c.args.name.now (at c.next.new.spot) c.known.ensures.rising here shown
+
+pub returns-then-has_name-clause-work : goal.returns-then-has_name-clause-work
+returns-then-has_name-clause-work g c =
+    let shows : List ℕ → Bool = g.S.View.shows c.args.source.now in
+    let rows : List Binding = g.S.Successors.instances c.args.source.now in
+    let at : Spot → Binding = g.S.Successors.at c.args.source.now in
+    omega (arith, c.next.ensures.work, left_most shows rows c.args.hidden.now.runs.items)
+
+pub pass_hidden-requires-clause-contained : goal.pass_hidden-requires-clause-contained
+pass_hidden-requires-clause-contained g c =
+    let shows : List ℕ → Bool = g.S.View.shows c.args.source.now in
+    let rows : List Binding = g.S.Successors.instances c.args.source.now in
+    let at : Spot → Binding = g.S.Successors.at c.args.source.now in
+    let here : next_of rows c.args.name.now ≡ Some (at c.next.new.spot) = sym c.next.ensures.found ∙ ap (λ (b : Bool). cond b (Some (at c.next.new.spot)) None) c.if-not-next.false in
+    (least_after rows c.args.name.now (at c.next.new.spot) c.known.ensures.rising here).contained
+
+pub returns-in_err-pass_hidden-clause-work : goal.returns-in_err-pass_hidden-clause-work
+returns-in_err-pass_hidden-clause-work g c =
+    let shows : List ℕ → Bool = g.S.View.shows c.args.source.now in
+    let rows : List Binding = g.S.Successors.instances c.args.source.now in
+    let at : Spot → Binding = g.S.Successors.at c.args.source.now in
+    omega (arith, c.next.ensures.work, left_most shows rows c.args.hidden.now.runs.items, c.pass_hidden.ensures.few)
+
+pub returns-in_err-pass_hidden-clause-lacks : goal.returns-in_err-pass_hidden-clause-lacks
+returns-in_err-pass_hidden-clause-lacks g c =
+    let shows : List ℕ → Bool = g.S.View.shows c.args.source.now in
+    let rows : List Binding = g.S.Successors.instances c.args.source.now in
+    let at : Spot → Binding = g.S.Successors.at c.args.source.now in
+    on_err_always c.from_residual-in_err-pass_hidden.result (c.in_err-pass_hidden.ensures.lacks c.args.name.now (passed_first shows rows c.args.name.now c.next.result (at c.next.new.spot) c.known.ensures.rising c.next.ensures.found c.if-not-next.false))
+
+pub returns-then-not-branch-clause-found : goal.returns-then-not-branch-clause-found
+returns-then-not-branch-clause-found g c =
+    let shows : List ℕ → Bool = g.S.View.shows c.args.source.now in
+    let rows : List Binding = g.S.Successors.instances c.args.source.now in
+    let at : Spot → Binding = g.S.Successors.at c.args.source.now in
+    let here : next_of rows c.args.name.now ≡ Some (at c.next.new.spot) = sym c.next.ensures.found ∙ ap (λ (b : Bool). cond b (Some (at c.next.new.spot)) None) c.if-not-next.false in
+    let shown : shows (at c.next.new.spot).name ≡ false = ap shows (sym c.in_ok-own.ensures.name) ∙ sym c.has_name.ensures ∙ c.if-has_name.false in
+    let past : next_of (visible shows rows) c.args.name.now ≡ next_of (visible shows rows) (at c.next.new.spot).name = next_past shows rows c.args.name.now (at c.next.new.spot) c.known.ensures.rising here shown in
+    let answer : next_of (visible shows rows) c.args.name.now ≡ None =
+    past ∙ sym c.in_ok-pass_hidden.ensures.found ∙ ap (λ (b : Bool). cond b (Some (at c.pass_hidden.new.spot)) None) c.if-not-branch.true in
+    answer
+
+pub returns-then-not-branch-clause-work : goal.returns-then-not-branch-clause-work
+returns-then-not-branch-clause-work g c =
+    let shows : List ℕ → Bool = g.S.View.shows c.args.source.now in
+    let rows : List Binding = g.S.Successors.instances c.args.source.now in
+    let at : Spot → Binding = g.S.Successors.at c.args.source.now in
+    omega (arith, c.next.ensures.work, left_most shows rows c.args.hidden.now.runs.items, c.pass_hidden.ensures.few)
+
+pub returns-in_err-name-clause-work : goal.returns-in_err-name-clause-work
+returns-in_err-name-clause-work g c =
+    let shows : List ℕ → Bool = g.S.View.shows c.args.source.now in
+    let rows : List Binding = g.S.Successors.instances c.args.source.now in
+    let at : Spot → Binding = g.S.Successors.at c.args.source.now in
+    omega (arith, c.next.ensures.work, left_most shows rows c.args.hidden.now.runs.items, c.pass_hidden.ensures.few)
+
+pub returns-in_err-name-clause-lacks : goal.returns-in_err-name-clause-lacks
+returns-in_err-name-clause-lacks g c =
+    let shows : List ℕ → Bool = g.S.View.shows c.args.source.now in
+    let rows : List Binding = g.S.Successors.instances c.args.source.now in
+    let at : Spot → Binding = g.S.Successors.at c.args.source.now in
+    let here : next_of rows c.args.name.now ≡ Some (at c.next.new.spot) = sym c.next.ensures.found ∙ ap (λ (b : Bool). cond b (Some (at c.next.new.spot)) None) c.if-not-next.false in
+    let shown : shows (at c.next.new.spot).name ≡ false = ap shows (sym c.in_ok-own.ensures.name) ∙ sym c.has_name.ensures ∙ c.if-has_name.false in
+    let past : next_of (visible shows rows) c.args.name.now ≡ next_of (visible shows rows) (at c.next.new.spot).name = next_past shows rows c.args.name.now (at c.next.new.spot) c.known.ensures.rising here shown in
+    let answer : next_of (visible shows rows) c.args.name.now ≡ Some (at c.pass_hidden.new.spot) =
+    past ∙ sym c.in_ok-pass_hidden.ensures.found ∙ ap (λ (b : Bool). cond b (Some (at c.pass_hidden.new.spot)) None) c.if-not-branch.false in
+    on_err_always c.from_residual-in_err-name.result (record { row = at c.pass_hidden.new.spot; passed = passed_answer shows rows c.args.name.now (at c.pass_hidden.new.spot) answer; long = c.in_err-name.ensures.long })
+
+pub returns-clause-found : goal.returns-clause-found
+returns-clause-found g c =
+    let shows : List ℕ → Bool = g.S.View.shows c.args.source.now in
+    let rows : List Binding = g.S.Successors.instances c.args.source.now in
+    let at : Spot → Binding = g.S.Successors.at c.args.source.now in
+    let here : next_of rows c.args.name.now ≡ Some (at c.next.new.spot) = sym c.next.ensures.found ∙ ap (λ (b : Bool). cond b (Some (at c.next.new.spot)) None) c.if-not-next.false in
+    let shown : shows (at c.next.new.spot).name ≡ false = ap shows (sym c.in_ok-own.ensures.name) ∙ sym c.has_name.ensures ∙ c.if-has_name.false in
+    let past : next_of (visible shows rows) c.args.name.now ≡ next_of (visible shows rows) (at c.next.new.spot).name = next_past shows rows c.args.name.now (at c.next.new.spot) c.known.ensures.rising here shown in
+    let answer : next_of (visible shows rows) c.args.name.now ≡ Some (at c.pass_hidden.new.spot) =
+    past ∙ sym c.in_ok-pass_hidden.ensures.found ∙ ap (λ (b : Bool). cond b (Some (at c.pass_hidden.new.spot)) None) c.if-not-branch.false in
+    answer
+
+pub returns-clause-work : goal.returns-clause-work
+returns-clause-work g c =
+    let shows : List ℕ → Bool = g.S.View.shows c.args.source.now in
+    let rows : List Binding = g.S.Successors.instances c.args.source.now in
+    let at : Spot → Binding = g.S.Successors.at c.args.source.now in
+    omega (arith, c.next.ensures.work, left_most shows rows c.args.hidden.now.runs.items, c.pass_hidden.ensures.few)

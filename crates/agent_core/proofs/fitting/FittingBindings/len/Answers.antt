@@ -1,6 +1,6 @@
 use Rattle.std.proofs.Common.{◌≡◌, ◌*◌, ◌≤◌, ap, length, arith}
 use Rattle.agent_core.specs.Fitting.{total}
-use Rattle.agent_core.proofs.LawProofs.{total_some}
+use Rattle.agent_core.proofs.FewFit.{total_some}
 use Rattle.agent_core.proofs.SentBindings.{names_count}
 use Rattle.agent_core.proofs.fitting.FittingBindings.len.Goals as goal
 

@@ -6,7 +6,7 @@ use Rattle.message_core.specs.Encodable.{IsEncodableBinding, IsEncodableValue}
 use Rattle.message_core.specs.Instances.{next_of}
 use Rattle.agent_core.specs.Reading.{visible, or_end}
 use Rattle.agent_core.proofs.Encodings.{next_answer_encodable}
-use Rattle.agent_core.proofs.nexts.get_next.Goals as goal
+use Rattle.agent_core.proofs.nexts.get_next_beside.Goals as goal
 
 pub returns-clause-encodable : goal.returns-clause-encodable
 returns-clause-encodable g c = λ root.
