@@ -22,7 +22,7 @@ use Rattle.setphase_core.specs.Outcomes.{SetNotes, CanFail, refusal_in, notes_in
 use Rattle.setphase_core.specs.Calls.{calls_of, object_after_set}
 use Rattle.agent_core.specs.Sets.{greatest_index, longest_response, is_too_long, no_notes, IsDenied, MayFail, MayFailWhere}
 use Rattle.agent_core.specs.Answers.{MayHave, MayFailBy, MayFailInView, RequestNotes}
-use Rattle.agent_core.proofs.LawProofs.{total_some}
+use Rattle.agent_core.proofs.FewFit.{total_some}
 
 -- ---- how many variables there are
 
