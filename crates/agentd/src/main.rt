@@ -21,6 +21,8 @@
 //! shows.
 #![tactic(auto)]
 
+ghost use Rattle.std.specs.Thread.{IsSend};
+
 use agent_program::{
     AskAgent, Failure, Opened, ReadFile, SystemFiles, collect_words, end_answered, report,
     run_asked, serve_opened, serve_opened_forever,
@@ -204,10 +206,12 @@ where
             startup.report(rt);
             write_lines(rt, alloc, queue, &mut hand, &mut output, &mut error)
         },
-        move || {
-            let served = serve_bound(rt, log, alloc, registry, opened, &audits, path, startup);
-            queue.close(rt);
-            served
+        move ||
+            requires { IsSend M.row }
+        {
+            serve_queued(
+                rt, log, alloc, registry, opened, &audits, path, startup, queue,
+            )
         },
     );
     served
@@ -273,6 +277,28 @@ fn bind_path<'r, R: Net + Files>(
         }
         None => Ok(None),
     }
+}
+
+// Serves without an end by a queue of lines, and then closes it, so that the task which writes them ends.
+fn serve_queued<'r, M, G, R>(
+    rt: &'r R,
+    log: &'r G,
+    alloc: Global,
+    registry: Registry<M>,
+    opened: Opened,
+    audits: &Auditing<'r>,
+    path: Option<&str>,
+    startup: &Arc<Startup, Global>,
+    queue: &LineQueue,
+) -> Result<(), Failure<'static>>
+where
+    M: MibObject + Send,
+    G: Log + Sync,
+    R: Threads + Wait + Net + Files + Clock + Sync,
+{
+    let served = serve_bound(rt, log, alloc, registry, opened, audits, path, startup);
+    queue.close(rt);
+    served
 }
 
 // Serves without an end, with a control socket at this path, if there is one, and logs how the lines go on,
