@@ -4,9 +4,11 @@
 
 KIND is get, next, set, bulk, response, trap1, inform, trap or report. The numbers are those behind the request-id, 0 where
 they are left out; the first may be an error-status by its name. A NAME may begin with the name of an object in
-docs/OBJECTS.md. TYPE and VALUE are as manager prints them (docs/MANAGER.md); a name alone is one of NULL.
+docs/OBJECTS.md. TYPE and VALUE are as manager prints them (docs/MANAGER.md); a name alone is one of NULL. A binding with [FROM to TO]
+stands for one of each of these numbers, in their order.
 """
 
+import itertools
 import pathlib
 import re
 
@@ -108,10 +110,18 @@ def value_of(kind="NULL", content=""):
     raise ValueError(f"no type {kind}")
 
 
+def spread(binding):
+    """The bindings that one with a range stands for, or itself."""
+    found = re.search(r"\[(\d+) to (\d+)\]", binding)
+    if not found:
+        return [binding]
+    return [f"{binding[:found.start()]}{number}{binding[found.end():]}" for number in range(int(found[1]), int(found[2]) + 1)]
+
+
 def bindings_of(text):
     """Bindings, one behind another."""
     octets = b""
-    for binding in filter(None, text.split(", ")):
+    for binding in itertools.chain.from_iterable(map(spread, filter(None, text.split(", ")))):
         times, name, value = re.fullmatch(r"(?:(\d+) x )?(\S+) ?(.*)", binding).groups()
         octets += tagged(SEQUENCE, identifier(numbers_of(name)) + value_of(*value.split())) * int(times or 1)
     return octets
