@@ -7,6 +7,7 @@ pub mod Rest
 pub mod Lacks
 pub mod LookupLemmas
 pub mod HiddenWalks
+pub mod Numbers
 pub mod Below
 pub mod SentBindings
 pub mod Sizes

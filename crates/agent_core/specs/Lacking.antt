@@ -1,5 +1,5 @@
 -- For which binding of a request a name above 24 numbers is made, for which there may be no memory.
-use Rattle.std.specs.Prelude.{◌≡◌, ℕ, suc, ◌+◌, ◌-◌, ◌%◌, ◌≤◌, Bool, if◌then◌else◌, nat_lt, List, ◌∷◌, ◌++◌, length, drop, slice_get, min, Some}
+use Rattle.std.specs.Prelude.{◌≡◌, ◌≢◌, ℕ, suc, ◌+◌, ◌-◌, ◌%◌, ◌≤◌, Bool, if◌then◌else◌, nat_lt, List, ◌∷◌, ◌++◌, length, drop, slice_get, min, Some}
 use Rattle.message_core.specs.declared.binding.Binding.{Binding}
 use Rattle.message_core.specs.declared.limits.TheConstants.{MAX_REPLY}
 use Rattle.message_core.specs.declared.request.Kind.{Kind}
@@ -10,6 +10,7 @@ use Rattle.agent_core.specs.Reading.{visible, next_answer}
 use Rattle.agent_core.specs.Lookups.{LacksName, PassesLong}
 use Rattle.agent_core.specs.Bulk.{asked_list, count_of}
 use Rattle.agent_core.specs.Fitting.{reply_size}
+use Rattle.agent_core.specs.Sets.{greatest_index}
 use Rattle.agent_core.specs.declared.shortage.Shortage.{Shortage}
 use Rattle.agent_core.specs.declared.shortage.Shortage.TheVariants as shortage
 
@@ -72,6 +73,11 @@ pub record LacksBulkName (shows : List ℕ → Bool) (rows : List Binding) (requ
   pub lacks : PassesLong shows rows name
   pub number : i ≡ binding_number (non_repeaters request)
       (length request.bindings - non_repeaters request) (length found)
+
+-- A GetNext or a GetBulk made no lookup, where an error-index has the number of each of its bindings.
+abbrev pub HasNoLookup : Request → ℕ → ℕ → Type 0
+HasNoLookup request before after =
+    request.kind ≢ Get → length request.bindings ≤ greatest_index → after ≡ before
 
 -- By the kind of a request: only a GetNext and a GetBulk are answered genErr for a name.
 abbrev pub LacksNameOf : (List ℕ → Bool) → List Binding → Request → Kind → ℕ → Type 0

@@ -9,7 +9,7 @@ ghost use Rattle.setphase_core.specs.Registry.{rows_of, prefixes_of, instances};
 ghost use Rattle.agent_core.specs.Replies.{kind_reply, failure_reply, name_failure_reply};
 ghost use Rattle.agent_core.specs.Denying.{denied_in};
 ghost use Rattle.agent_core.specs.Answers.{IsSent, IsSentRead, IsSentBy, IsRead, IsStep, drop_audit, reply_audit, with_count_of};
-ghost use Rattle.agent_core.specs.Lacking.{LacksNameOf, IfName};
+ghost use Rattle.agent_core.specs.Lacking.{LacksNameOf, IfName, HasNoLookup};
 ghost use Rattle.agent_core.specs.Sets.{greatest_index};
 
 use crate::answered::Answered;
@@ -317,6 +317,7 @@ fn put_read<S: Source<L>, L: Ledger>(
     ensures err { OnErr result (buffer.new ≡ buffer.old) }
     ensures lacks { IfErr result (IfName (LacksNameOf (S.shows source.now) (S.instances source.now)
         request.now request.now.kind)) }
+    ensures other { result ≡ Err Shortage.Other → request.now.kind ≢ Kind.Get → steps.new ≡ steps.old }
 {
     let asked = request.bindings.as_slice();
     source.known();
@@ -364,7 +365,9 @@ fn send_unnamed(
     })
 }
 
-// Puts the reply to a request, by its kind, into the buffer, from any source and under any view.
+// Puts the reply to a request, by its kind, into the buffer, from any source and under any view. Of a
+// GetNext and a GetBulk it fails ahead of any lookup alone: what is refused later is memory for a name,
+// and is answered. (Names above the greatest error-index no request has that is decoded.)
 fn send_kind<S: Source<L>, L: Ledger>(
     alloc: Global,
     source: &S,
@@ -382,6 +385,7 @@ fn send_kind<S: Source<L>, L: Ledger>(
         read buffer.new.reply) }
     ensures bpdus { buffer.new.bpdus ≡ buffer.old.bpdus }
     ensures err { OnErr result (buffer.new ≡ buffer.old) }
+    ensures other { OnErr result (HasNoLookup request.now steps.old steps.new) }
 {
     match put_read(alloc, source, request, buffer, steps) {
         Ok(sent) => Ok(ReadReply {

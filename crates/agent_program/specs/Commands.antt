@@ -46,7 +46,7 @@ module _ {O : Type 0} (contents : O → Option (List ℕ)) where
 -- Beside it an agent, by what it may answer at the control socket of a path to octets.
 module _ {O : Type 0} (Answers : List ℕ → List ℕ → Option (List ℕ) → Type 0)
     (contents : O → Option (List ℕ)) where
-  -- the agent was sent exactly these octets, and the program ended by its answer
+  -- the program ended by an answer to exactly these octets
   pub record IsSent (may_be_empty : Bool) (path octets : List ℕ) (writer writer' : O)
       (ended : Result (Unit {0}) Failure) : Type 0 where
     pub answer : Option (List ℕ)

@@ -69,7 +69,7 @@ fn call_driver<L: LineDriver>(
         SettingKey::Bridge(Key::Port(port, PortKey::Enable)) => {
             driver.set_enabled(port, is_enabled(value))
         }
-        _ => Ok(()),
+        _ => unreachable!(),
     }
 }
 

@@ -13,11 +13,12 @@
 //! `specs/Sent.antt`: the octets of commands, and which answers refuse them.
 //!
 //! # Laws
-//! On a receive: what it gives is no longer than the slice; only a fault of the socket itself is a
-//! failure. On a send: none fails.
+//! On a receive: what it gives is no longer than the slice; it fails only with `WireFault::Receive`, and
+//! then counts one failure. On a send: none fails.
 //!
 //! # Not claimed
-//! What comes over a connection, and what of an answer arrives; how long a wait is; that no connection is
+//! At which errors a receive fails: at each of an accept, unless nobody waited, a signal came, or who
+//! connected is gone. What comes over a connection, and what of an answer arrives; how long a wait is; that no connection is
 //! taken before all tasks have begun, and that the socket is closed only where one had not; what a path names,
 //! and that a socket is made only in a directory of which nothing is wrong.
 #![tactic(auto)]

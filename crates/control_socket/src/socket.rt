@@ -23,7 +23,8 @@ const PAUSE_MILLIS: u64 = 20;
 /// is not whole in that time, or of which nothing comes, is passed over, and its connection ended.
 ///
 /// Its first receive reports that its task has begun. Until all tasks of the agent's start have begun it
-/// takes no connection, and where the start has failed, before a receive or behind it, it is closed.
+/// takes no connection, and where the start has failed, before a receive or behind it, it is closed; a receive
+/// that fails gives its fault all the same, and the next one that it is closed.
 ///
 /// A send answers the command that was received last, over its connection, and ends it. None fails: an
 /// operator who is gone, or does not read, loses the answer. All peers are one: the operator.

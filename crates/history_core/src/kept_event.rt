@@ -46,7 +46,8 @@ impl Model for KeptEvent {
 }
 
 impl KeptEvent {
-    /// An event to keep. Takes memory only for a request with variable bindings.
+    /// An event to keep. Takes memory only for a request with a community of more than `INLINE_OCTETS`
+    /// octets or with variable bindings.
     pub fn of(alloc: Global, event: Event) -> Result<KeptEvent, AllocError>
         requires { IsEncodable event }
         ensures value { IfOk result (λ kept. kept ≡ event) }

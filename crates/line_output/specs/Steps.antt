@@ -1,5 +1,5 @@
 -- A step of the task that writes, at one output.
-use Rattle.std.specs.Prelude.{◌≡◌, ℕ, ◌≤◌, ◌<◌, List, [], Option, take, drop}
+use Rattle.std.specs.Prelude.{◌≡◌, ◌≢◌, ℕ, ◌≤◌, ◌<◌, List, [], Option, length, take, drop}
 use Rattle.std.specs.Io.KnownBytes.{Appends, Keeps}
 use Rattle.line_output.specs.declared.pending.TheConstants.{CHUNK_OCTETS}
 use Rattle.line_output.specs.declared.step.Step.{Step}
@@ -10,6 +10,7 @@ use Rattle.line_output.specs.declared.step.Step.TheVariants.{Idle, Waits, Refuse
 pub record Writes (held holds : Option (List ℕ)) (old new : List ℕ) : Type 0 where
   pub octets : ℕ
   pub some : 0 < octets
+  pub within : octets ≤ length old
   pub bounded : octets ≤ CHUNK_OCTETS
   pub rest : new ≡ drop octets old
   pub appended : Appends held holds (take octets old)
@@ -19,10 +20,11 @@ pub record IsUntouched (held holds : Option (List ℕ)) (old new : List ℕ) : T
   pub octets : new ≡ old
   pub kept : Keeps held holds
 
--- What a step does: it writes, or there was nothing to be written, or nothing was taken.
+-- What a step does: it writes, or nothing was written: there was nothing to be written, or there was, and nothing
+-- was taken.
 abbrev pub IsStep : Option (List ℕ) → Option (List ℕ) → List ℕ → List ℕ → Step → Type 0
 IsStep held holds old new Wrote = Writes held holds old new
-IsStep held holds old new Idle = old ≡ []
-IsStep held holds old new Waits = IsUntouched held holds old new
-IsStep held holds old new Refused = IsUntouched held holds old new
-IsStep held holds old new Failed = IsUntouched held holds old new
+IsStep held holds old new Idle = (old ≡ []) × IsUntouched held holds old new
+IsStep held holds old new Waits = (old ≢ []) × IsUntouched held holds old new
+IsStep held holds old new Refused = (old ≢ []) × IsUntouched held holds old new
+IsStep held holds old new Failed = (old ≢ []) × IsUntouched held holds old new

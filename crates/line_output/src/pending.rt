@@ -1,5 +1,5 @@
 //! A text in the writer's hand, and how far it is written.
-ghost use Rattle.std.specs.Prelude.{◌≡◌, ◌+◌, ◌-◌, ◌≤◌, ◌<◌, ◌↔◌, [], IsTrue, IfOk, length, take, drop, string_bytes, true, false};
+ghost use Rattle.std.specs.Prelude.{◌≡◌, ◌+◌, ◌-◌, ◌≤◌, ◌<◌, ◌↔◌, ◌&&◌, ◌==◌, [], IsTrue, IfOk, length, take, drop, string_bytes, true, false};
 
 use crate::text::LineText;
 use crate::waiting::Waiting;
@@ -67,10 +67,12 @@ impl<const MOST: usize> Pending<MOST> {
         }
     }
 
-    // The output took so many octets more.
+    // The output took so many octets more: it stands inside a line that was given up only where it did, and took
+    // none.
     pub(crate) fn wrote(&mut self, octets: usize)
         requires { octets ≤ length (to_write self.old) }
         ensures rest { to_write self.new ≡ drop octets (to_write self.old) }
+        ensures cut_off { self.new.is_cut_off ≡ (self.old.is_cut_off && (octets == 0)) }
         ensures text { self.new.text ≡ self.old.text }
     {
         if self.is_cut_off && octets > 0 {
@@ -103,10 +105,12 @@ impl<const MOST: usize> Pending<MOST> {
         lost as u64
     }
 
-    // Takes the text that waits, once this one is written.
+    // Takes the text that waits, once this one is written. The output stands where it stood, also where none waits.
     pub(crate) fn refill(&mut self, waiting: &mut Waiting<MOST>)
         requires { to_write self.old ≡ [] }
         ensures text { to_write self.new ≡ behind_cut (is_inside_line self.old) (octets_of waiting.old.text) }
+        ensures cut_off { self.new.is_cut_off ≡ is_inside_line self.old }
+        ensures start { self.new.written ≡ 0 }
         ensures none { octets_of waiting.new.text ≡ [] }
         ensures lost { waiting.new.lost ≡ waiting.old.lost }
     {
@@ -115,12 +119,15 @@ impl<const MOST: usize> Pending<MOST> {
         waiting.take(&mut self.text);
     }
 
-    // Takes a line in place of a text that is written, if the line is no longer than the most octets.
+    // Takes a line in place of a text that is written, if the line is no longer than the most octets. The output
+    // stands where it stood, also where the line is too long.
     pub(crate) fn restart(&mut self, line: &str) -> bool
         requires { to_write self.old ≡ [] }
         ensures fits { IsTrue result ↔ (length line.now ≤ MOST) }
         ensures text { IsTrue result → to_write self.new ≡ behind_cut (is_inside_line self.old) line.now }
         ensures none { result ≡ false → to_write self.new ≡ [] }
+        ensures cut_off { self.new.is_cut_off ≡ is_inside_line self.old }
+        ensures start { self.new.written ≡ 0 }
     {
         self.is_cut_off = self.is_cut_off || self.is_begun();
         self.written = 0;

@@ -98,8 +98,9 @@ IsControlTurn Reports s ports (was_done a h reply) =
     (a.space ≡ command_space) × IsDone s ports a h reply
 
 -- Between two states of its wires, and of what records its items, the line has run so many rounds: one
--- item for each command, in order, refused for its cause, or entered with exactly its event and
--- answered.
+-- item for each command, in order: refused for its cause, the counts asked for, entered with exactly its
+-- event, or not entered, for want of memory or of a number. Each but the last was answered: for the last
+-- there may have been no memory for an answer, or its answer may not have been sent.
 abbrev pub HasControlled : {W K : Type 0} → (W → List Deed → W → Type 0)
     → (K → List ControlItem → K → Type 0) → (DropCounts → Type 0) → RunStart → ℕ → ℕ → W → W → K → K → ℕ → ℕ → End → Type 0
 HasControlled did kept Reports s ports rounds a b k l amount later_amount how =

@@ -139,8 +139,9 @@ module _ {A W T C V P : Type 0} (worker_did : A → List Deed → A → Type 0) 
     (control_did : C → List ControlDeed → C → Type 0)
     (watch_went : V → List Note → V → Type 0) (pace_went : P → List Bool → P → Type 0)
     (s : RunStart) (rounds : ℕ) where
-  -- An interval from one place to another that ended so, and was reported once to the watch. The pace
-  -- and the count of faults are the same. Only a port's link, and a command, ends one for want of memory.
+  -- An interval from one place to another that ended so. One of a worker or of the ticker was reported once to
+  -- the watch, and none of another line. The pace and the count of faults are the same. Only a port's link, and
+  -- a command, ends one for want of memory.
   pub record IsNotedInterval (a b : Place A W T C V P) (how : End) : Type 0 where
     pub trace : List Item
     pub interval : IsInterval worker_did worker_failures went failures ticker_did ticker_failures control_did s rounds

@@ -155,9 +155,9 @@ impl<A: GatedWire, W: Wire, T: PacedWire, C: ControlWire, V: Watch, P: Pace> Lin
 
     ghost gone = { GoneOn A.did A.failures W.went W.failures T.did T.failures C.did V.went P.went };
 
-    /// Goes on interval by interval until one ends it, or 2^64 - 1 are done. Each interval is reported
-    /// once to its watch; so is each fault, behind which the line waits by its pace; and so is the end.
-    /// Nothing is kept of an interval but its counts.
+    /// Goes on interval by interval until one ends it, or 2^64 - 1 are done. Each interval of a worker and
+    /// of the ticker is reported once to its watch; so is each fault, behind which the line waits by its
+    /// pace; and so is the end. Nothing is kept of an interval but its counts.
     fn run_line<O: MibObject, L: Run, R: Wait>(
         self,
         rt: &R,

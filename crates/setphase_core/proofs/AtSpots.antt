@@ -80,6 +80,10 @@ module _ (passes : List ℕ → Bool) (rows : List ObjectRow) (w : World) (n : L
       made_place (prefixes_of rows) s.row spot.place (instance_at rows w spot).name spot.index.items ordered (omega (arith, s.within, names_count rows)) name
       (ap (λ (p : List ℕ). p ++ spot.index.items) name)
 
+  pub found_kept : (found : Bool) (spot : Spot) → IsFound passes rows w n 0 (cond found (Some spot) None) → IsTrue found → passes (prefix_at (prefixes_of rows) spot.place) ≡ false
+  found_kept false spot e t = absurd (cc)
+  found_kept true spot s t = ap passes (name_there rows spot.place s.row s.within s.at) ∙ s.kept
+
 -- the object at a place has the first instance, or the walk goes on behind it
 module _ (passes : List ℕ → Bool) (rows : List ObjectRow) (row : ObjectRow) (w : World) (n : List ℕ) (place old : ℕ) (spot : Spot) where
   pub own_answer : (found : Bool) → drop place rows ≡ row ∷ drop (place + 1) rows → passes row.prefix ≡ false → place < length rows → get_or rows place row ≡ row → spot.place ≡ place →
@@ -95,6 +99,7 @@ module _ (passes : List ℕ → Bool) (rows : List ObjectRow) (row : ObjectRow) 
           after = omega (arith, here);
           within = omega (arith, within, here);
           at = ap (λ (k : ℕ). get_or rows k row) here ∙ at;
+          kept = kept;
           index = e;
           fits = fits refl;
           first = passed.walk_found passes (drop place rows) (drop place rows) row (drop (place + 1) rows) w n split old old start spot.index.items kept e;

@@ -41,6 +41,7 @@ found_whole passes rows w n start (Some spot) e h = record {
   after = omega arith;
   within = h.within;
   at = h.at;
+  kept = h.kept;
   index = h.index;
   fits = h.fits;
   first = sym e ∙ h.first;

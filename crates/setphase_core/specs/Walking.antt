@@ -58,6 +58,7 @@ pub record IsSpot (passes : List ℕ → Bool) (rows : List ObjectRow) (w : Worl
   pub after : start ≤ spot.place
   pub within : spot.place < length rows
   pub at : get_or rows spot.place row ≡ row
+  pub kept : passes row.prefix ≡ false
   pub index : Some (row.prefix ++ spot.index.items)
       ≡ option_map (λ b. b.name) (next_of (instances_under row w) name)
   pub fits : length spot.index.items ≤ longest_index row.column

@@ -65,10 +65,11 @@ pub enum SetFault {
     /// The instance can never be.
     #[error("no creation")]
     NoCreation,
-    /// The instance cannot be made now.
+    /// The instance cannot be made now. No object answers so: the test of all variables together does.
     #[error("inconsistent name")]
     InconsistentName,
-    /// The value does not fit the others now.
+    /// The value does not fit the others now. No object answers so: the test of all variables together
+    /// does.
     #[error("inconsistent value")]
     InconsistentValue,
     /// There is no place for it.

@@ -1,5 +1,5 @@
 //! Objects in the order of their names.
-ghost use Rattle.std.specs.Prelude.{◌≡◌, ◌<◌, ◌≤◌, ◌+◌, ◌-◌, ◌*◌, ◌^◌, ◌++◌, ℕ, Bool, List, length, map, if◌then◌else◌, Some, None, Ok, IfOk, IsOk, OnErr, IsTrue, MatchResult};
+ghost use Rattle.std.specs.Prelude.{◌≡◌, ◌<◌, ◌≤◌, ◌+◌, ◌-◌, ◌*◌, ◌^◌, ◌++◌, ℕ, Bool, false, List, length, map, if◌then◌else◌, Some, None, Ok, IfOk, IsOk, OnErr, IsTrue, MatchResult};
 ghost use Rattle.std.specs.Option.{option_copied};
 ghost use Rattle.message_core.specs.Instances.{next_of, value_of, IsServable};
 ghost use Rattle.setphase_core.specs.Registry.{rows_of, prefixes_of, first_fault, AreApart, AreNamed, HasShortName, owner_of, instances};
@@ -303,6 +303,8 @@ impl<O: MibObject> Registry<O> {
         ensures there { IsTrue result → IsThere (rows_of self.now) world.now spot.new }
         ensures place { IsTrue result → IsPlace (prefixes_of (rows_of self.now))
             (instance_at (rows_of self.now) world.now spot.new).name (Ok spot.new.place) }
+        ensures kept { IsTrue result → P.passes passing.now
+            (prefix_at (prefixes_of (rows_of self.now)) spot.new.place) ≡ false }
         ensures behind { IsTrue result → first_place place ≤ spot.new.place }
         ensures work { steps.new + passed_ahead (P.passes passing.now) (rows_of self.now) (next_of
             (open_instances (P.passes passing.now) (rows_of self.now) world.now) name.now)

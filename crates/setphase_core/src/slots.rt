@@ -114,7 +114,7 @@ impl Slots {
     {
         match self.slots.as_slice()[slot.place].old {
             Some(before) => before,
-            None => slot.value,
+            None => unreachable!(),
         }
     }
 

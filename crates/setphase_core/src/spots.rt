@@ -1,5 +1,5 @@
 //! Where the instance stands that a walk finds, and the instance there.
-ghost use Rattle.std.specs.Prelude.{◌≡◌, ◌≤◌, ◌<◌, ◌+◌, ◌++◌, length, map, if◌then◌else◌, Some, None, Ok, IfOk, OnErr, IsSome, IsTrue};
+ghost use Rattle.std.specs.Prelude.{◌≡◌, ◌≤◌, ◌<◌, ◌+◌, ◌++◌, length, map, false, if◌then◌else◌, Some, None, Ok, IfOk, OnErr, IsSome, IsTrue};
 ghost use Rattle.oid_core.specs.declared.limits.TheConstants.{INLINE_NUMBERS, MAX_NUMBERS};
 ghost use Rattle.message_core.specs.Instances.{next_of};
 ghost use Rattle.setphase_core.specs.Values.{value_at};
@@ -44,6 +44,8 @@ pub fn find_spot<O: MibObject, P: Passing, L: Ledger>(
     ensures place { let rows = rows_of (map O.state objects.now) in
         IsTrue result → IsPlace (prefixes_of rows) (instance_at rows world.now spot.new).name
         (Ok spot.new.place) }
+    ensures kept { IsTrue result → P.passes passing.now
+        (prefix_at (prefixes_of (rows_of (map O.state objects.now))) spot.new.place) ≡ false }
     ensures behind { IsTrue result → first_place place ≤ spot.new.place }
     ensures work { let rows = rows_of (map O.state objects.now) in
         let passes = P.passes passing.now in

@@ -143,7 +143,8 @@ impl Families {
     }
 
     /// Puts the mask of the row of this number, and gives the one that it had. It takes no memory. A
-    /// mask that had no 0 takes a walk along one way, any other one along the way of each row.
+    /// mask that had no 0 takes a walk along one way, any other one along the way of each row. What stays
+    /// marked that no row needs any more costs time alone, and no clause speaks of it.
     pub fn put_mask(&mut self, n: usize, mask: Mask) -> Mask
         requires { n < length self.old }
         ensures rows { self.new ≡ with_mask self.old n mask }

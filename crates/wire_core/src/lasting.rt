@@ -40,7 +40,8 @@ const EOPNOTSUPP: i32 = 95;
 /// is lost, and counted by its cause among the [`SendingSockets`]' losses.
 ///
 /// Its first receive reports to the agent's [`Startup`] that its task has begun. Where the start has
-/// failed, before a receive or behind it, the wire is closed, and what it received is passed over.
+/// failed, before a receive or behind it, the wire is closed, and what it received is passed over; a receive
+/// that fails gives its fault all the same, and the next one that it is closed.
 #[derive(Drop)]
 pub struct LastingWire<C> {
     socket: Arc<UdpSocket, Global>,

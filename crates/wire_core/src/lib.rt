@@ -10,9 +10,10 @@
 //! [`LastingWire::widen_send_buffer`] asks for a larger send buffer. [`Pace`] says how long ticks go on:
 //! [`CountPace`] so many times, [`SecondPace`] each second behind what the tick before took,
 //! [`WholeSecondPace`] at each whole second since its start, [`StartingPace`] the same for a task of an
-//! agent's start; behind a gap there is one tick, and the seconds without one are [`MissedSeconds`]. A [`Startup`] says whether all tasks of an agent have begun, within
-//! [`STARTUP_WAIT_MILLIS`] milliseconds; each has a part in it, a [`TaskStart`], by which a lasting wire is
-//! closed, and such a pace ends, where the start has failed. A [`Packet`] is a datagram and its peer,
+//! agent's start; behind a gap there is one tick, and the seconds without one are [`MissedSeconds`]. A
+//! [`Startup`] says whether all tasks of an agent have begun, within [`STARTUP_WAIT_MILLIS`] milliseconds; each
+//! has a part in it, a [`TaskStart`], by which a lasting wire is closed, and such a pace ends, where the start
+//! has failed. A [`Packet`] is a datagram and its peer,
 //! [`Received`] what a receive gave, [`WireInput`] what a wire in memory is to give; what goes wrong is a
 //! [`WireFault`]. A receive over UDP is set to wait [`RECEIVE_WAIT_MILLIS`] milliseconds, and at a
 //! lasting wire [`FAULT_WAIT_MILLIS`] behind an error of a socket that is there. Errors above
@@ -35,7 +36,8 @@
 //! What UDP delivers, and how long a wait is: a wire over UDP gives its count of failures alone, and
 //! a lasting one also that no send failed. That a datagram goes by the socket that is chosen for it; that
 //! one that was lost is counted, and what a count of [`Losses`] or of [`MissedSeconds`] is; the system's
-//! words for a cause; how large a send buffer is. What a [`Startup`]
+//! words for a cause; how large a send buffer is. Which second a tick is of: a pace of whole seconds says that
+//! it is past the second of the last tick, and no clause says what a clock reads. What a [`Startup`]
 //! decides, that a lasting wire reports to it and is closed by it alone, and where a [`StartingPace`] ends:
 //! that hangs on atomic numbers, of which no clause speaks.
 #![tactic(auto)]

@@ -44,7 +44,7 @@ fn phase_of(number: u8) -> Phase
     }
 }
 
-// The last millisecond in which tasks may still begin, for a start at this one.
+// The millisecond by which tasks are to have begun, for a start at this one: in it the time is over.
 fn deadline_after(millis: u64) -> u64
     ensures { result ≡ deadline_after millis }
 {

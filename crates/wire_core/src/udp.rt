@@ -16,7 +16,8 @@ pub const RECEIVE_WAIT_MILLIS: u64 = 1000;
 /// A wire over a bound UDP socket, which it may share with others. A receive waits for
 /// `RECEIVE_WAIT_MILLIS`, and gives nothing then. A datagram for a peer that is out of reach at the
 /// time is lost, as others on their way are, and no failure: who asks from such a place must not end
-/// the wire. It gives its count of failures and no more.
+/// the wire. So is one for port 0, which is not sent. Both count as sent. It gives its count of failures and
+/// no more.
 #[derive(Drop)]
 pub struct UdpWire {
     socket: Arc<UdpSocket, Global>,

@@ -39,6 +39,7 @@ returns-then-index_ahead-clause-found g c =
       after = c.loop-place.auto.place;
       within = omega (arith, c.loop-place-test.true, rows_count g.O.MibObject.state c.args.objects.now);
       at = row_there g.O.MibObject.state c.args.objects.now c.loop-place.place c.index-objects-place.result row c.loop-place-test.true c.index-objects-place.is;
+      kept = sym c.is_passed.ensures ∙ c.if-is_passed.false;
       index = index;
       fits = c.index_ahead.ensures.fits c.if-index_ahead.true;
       first = passed.walk_found passes rows _ row _ c.args.world.now c.args.name.now split c.args.steps.now c.loop-place.steps c.loop-place.invariant c.index_ahead.new.into.items (sym c.is_passed.ensures ∙ c.if-is_passed.false) index;
