@@ -7,6 +7,7 @@ pub mod Bulk
 pub mod Fitting
 pub mod Sending
 pub mod Standing
+pub mod Views
 pub mod Replies
 pub mod Sets
 pub mod Answers

@@ -18,6 +18,7 @@ use crate::bulk::get_bulk;
 use crate::denying::denied_bindings;
 use crate::getting::get_all;
 use crate::nexts::get_next_all;
+use crate::request_view::RequestView;
 use crate::sent_reply::{ReadReply, SentReply};
 use crate::served::Served;
 use crate::sets::answer_set;
@@ -289,11 +290,11 @@ fn send_read<O: MibObject, L: Ledger>(
         let whole = Whole { registry, world };
         return send_kind(alloc, &whole, request, buffer, &mut steps);
     }
-    let vacm = world.policy.vacm();
+    let names = request.bindings.as_slice().len();
+    let view = RequestView::of(alloc, world.policy.vacm(), view, registry, names);
     let served = Served {
         registry,
         world,
-        vacm,
         view,
     };
     send_kind(alloc, &served, request, buffer, &mut steps)

@@ -16,8 +16,10 @@
 //! the value of a name. The value of an instance is made where it is sent. Its name is made where GetNext
 //! sends it, where Get compares it with an object, where the view is asked, and to go on behind a hidden
 //! instance. The hidden instances that a walk passes are kept as a run (`HiddenRuns`), and no other walk of
-//! the request passes them again. A walk stands at a name ([`Stand`]): at the place of the name among the objects, and knows of
-//! those from there on how far the view shows them whole. Each column of a GetBulk walks by itself. A
+//! the request passes them again. A walk stands at a name ([`Stand`]): at the place of the name among the
+//! objects, and knows of those from there on how far the view shows them whole, and how far it is not seen to
+//! hide one. A request of many names in a view of many rows asks the view of each object once, ahead of its
+//! walks (`RequestView`). Each column of a GetBulk walks by itself. A
 //! GetBulk lends its walks one spot, in which they write where an instance stands. Each binding is encoded
 //! at once, behind those that are to be sent. The numbers of its name stand behind those of the names before
 //! it, from which the next repetition goes on; an endOfMibView that follows another stands under that one's
@@ -34,7 +36,8 @@
 //! `specs/Lacking.antt`: for which binding that is; `specs/Bulk.antt`, `specs/Fitting.antt`: GetBulk;
 //! `specs/Denying.antt`: denied bindings; `specs/Buffered.antt`: what a buffer holds;
 //! `specs/Sending.antt`: a GetBulk's bindings that are to be sent, what is kept of each, and where
-//! walks stand; `specs/Standing.antt`: where a walk stands, and what it knows of a view there.
+//! walks stand; `specs/Standing.antt`: where a walk stands, and what it knows of a view there;
+//! `specs/Views.antt`: what a view is seen by.
 //!
 //! # Laws
 //! In [`laws`]: where no memory is wanting, replies depend on nothing but what is visible, those of Get also on the objects and
@@ -63,6 +66,7 @@ mod hidden;
 pub mod laws;
 mod nexts;
 mod reading;
+mod request_view;
 mod sent_binding;
 mod sent_reply;
 mod served;

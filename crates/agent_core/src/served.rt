@@ -1,17 +1,18 @@
 //! Managed objects and the world that they show, as what requests are answered from.
-ghost use Rattle.std.specs.Prelude.{◌≡◌, ◌≤◌, ◌<◌, length, take, Some, None, Ok, IfOk, IfSome, IsTrue, if◌then◌else◌, option_map};
+ghost use Rattle.std.specs.Prelude.{◌≡◌, ◌≤◌, ◌<◌, false, length, take, Some, None, Ok, IfOk, IfSome, IsTrue, if◌then◌else◌, option_map};
 ghost use Rattle.oid_core.specs.declared.limits.TheConstants.{MAX_NUMBERS};
 ghost use Rattle.message_core.specs.Instances.{next_of};
 ghost use Rattle.vacm_core.specs.Hiding.{hides_all};
 ghost use Rattle.setphase_core.specs.Registry.{rows_of, prefixes_of, AreApart};
 ghost use Rattle.setphase_core.specs.Passing.{open_instances};
-ghost use Rattle.setphase_core.specs.Searching.{IsPlace};
+ghost use Rattle.setphase_core.specs.Searching.{IsPlace, prefix_at};
 ghost use Rattle.vacm_core.specs.Families.{in_view, is_included};
 ghost use Rattle.std.specs.Option.{option_copied};
 ghost use Rattle.agent_core.specs.Reading.{object_of};
 ghost use Rattle.agent_core.specs.Standing.{IsStand};
 ghost use Rattle.setphase_core.specs.Walking.{first_place, IsThere, instance_at};
 
+use crate::request_view::RequestView;
 use crate::source::{NOWHERE, Source, Stand, Successors, View, first_place};
 use message_core::Value;
 use oid_core::{Oid, OidFault};
@@ -20,7 +21,7 @@ use std::alloc::{AllocError, Global};
 use std::marker::Brand;
 use std::sync::ledger::{Blank, Ledger};
 use steps::Steps;
-use vacm_core::{FrontAnswer, Name, Vacm};
+use vacm_core::FrontAnswer;
 
 /// Managed objects, the world that they show (RFC 3416, 4.2: the variables to which an agent has
 /// access), and the view by which some instances are shown (RFC 3415, 2.4). Objects that the view is
@@ -31,10 +32,8 @@ pub struct Served<'a, O: MibObject> {
     pub registry: &'a Registry<O>,
     /// The world.
     pub world: &'a World,
-    /// The tables of access control.
-    pub vacm: &'a Vacm,
-    /// The name of the view.
-    pub view: &'a Name,
+    /// The view.
+    pub view: RequestView<'a>,
 }
 
 // A copy of the name of an object. Only memory can fail.
@@ -83,10 +82,10 @@ fn shown_front<'a>(under: &FrontAnswer, name: &'a Oid) -> Option<&'a [u32]>
 impl<O: MibObject> Passing for Served<'_, O> {
     ghost use Rattle.vacm_core.specs.Hiding.{hides_all};
 
-    ghost passes = { λ s prefix. hides_all s.vacm.now.families s.view.now prefix };
+    ghost passes = { λ s prefix. hides_all s.view.families s.view.view prefix };
 
-    fn passes_over(&self, prefix: &[u32]) -> bool {
-        self.vacm.hides_all(self.view, prefix)
+    fn passes_over(&self, place: usize, prefix: &[u32]) -> bool {
+        self.view.hides_all(place, prefix)
     }
 }
 
@@ -101,7 +100,8 @@ impl<O: MibObject> Served<'_, O> {
         spot: &mut Spot,
         blank: Blank,
     ) -> bool
-        requires stands { IsStand (in_view self.now.vacm.now.families self.now.view.now)
+        requires stands { IsStand (in_view self.now.view.families self.now.view.view)
+            (hides_all self.now.view.families self.now.view.view)
             (prefixes_of (rows_of self.now.registry.now)) stand.now name.now }
         requires name { blank.name ≡ L.name }
         requires parts { blank.parts ≡ L.parts }
@@ -109,7 +109,7 @@ impl<O: MibObject> Served<'_, O> {
         ensures found { let rows = rows_of self.now.registry.now in
             (if result then Some (instance_at rows self.now.world.now spot.new) else None)
             ≡ next_of (open_instances
-            (hides_all self.now.vacm.now.families self.now.view.now) rows self.now.world.now)
+            (hides_all self.now.view.families self.now.view.view) rows self.now.world.now)
             name.now }
         ensures there { IsTrue result →
             IsThere (rows_of self.now.registry.now) self.now.world.now spot.new }
@@ -117,13 +117,11 @@ impl<O: MibObject> Served<'_, O> {
             IsPlace (prefixes_of rows) (instance_at rows self.now.world.now spot.new).name
             (Ok spot.new.place) }
         ensures behind { IsTrue result → first_place stand.now.place ≤ spot.new.place }
+        ensures kept { IsTrue result → hides_all self.now.view.families self.now.view.view
+            (prefix_at (prefixes_of (rows_of self.now.registry.now)) spot.new.place) ≡ false }
     {
         let mut passed: Steps<L> = Steps::new(blank);
-        let Stand {
-            place,
-            until,
-            asked: _,
-        } = *stand;
+        let (place, until) = (stand.place, stand.open_until);
         self.registry
             .next_open(self.world, name, place, until, self, spot, &mut passed)
     }
@@ -132,10 +130,10 @@ impl<O: MibObject> Served<'_, O> {
 impl<O: MibObject> View for Served<'_, O> {
     ghost use Rattle.vacm_core.specs.Families.{in_view};
 
-    ghost shows = { λ s name. in_view s.vacm.now.families s.view.now name };
+    ghost shows = { λ s name. in_view s.view.families s.view.view name };
 
     fn has_name(&self, name: &Oid) -> bool {
-        self.vacm.in_view(self.view, name).is_included()
+        self.view.has(name)
     }
 }
 
@@ -147,15 +145,15 @@ impl<O: MibObject, L: Ledger> Successors<L> for Served<'_, O> {
     ghost use Rattle.setphase_core.specs.Walking.{IsThere, instance_at};
     ghost use Rattle.agent_core.specs.Standing.{IsStand};
 
-    ghost instances = { λ s. open_instances (hides_all s.vacm.now.families s.view.now)
+    ghost instances = { λ s. open_instances (hides_all s.view.families s.view.view)
         (rows_of s.registry.now) s.world.now };
 
     ghost at = { λ s. instance_at (rows_of s.registry.now) s.world.now };
 
     ghost is_there = { λ s. IsThere (rows_of s.registry.now) s.world.now };
 
-    ghost stands = { λ s. IsStand (in_view s.vacm.now.families s.view.now)
-        (prefixes_of (rows_of s.registry.now)) };
+    ghost stands = { λ s. IsStand (in_view s.view.families s.view.view)
+        (hides_all s.view.families s.view.view) (prefixes_of (rows_of s.registry.now)) };
 
     fn known(&self) {
         self.registry.known(self.world);
@@ -168,13 +166,12 @@ impl<O: MibObject, L: Ledger> Successors<L> for Served<'_, O> {
     fn start_beside(&self, name: &[u32], other: &Stand) -> Stand {
         let near = first_place(other.place);
         let place = self.registry.place_near(name, near);
-        let until = if near <= first_place(place) {
-            other.until
-        } else {
-            0
-        };
+        if first_place(place) < near {
+            return Stand::at(place);
+        }
         Stand {
-            until,
+            until: other.until,
+            open_until: other.open_until,
             ..Stand::at(place)
         }
     }
@@ -186,6 +183,7 @@ impl<O: MibObject, L: Ledger> Successors<L> for Served<'_, O> {
             return false;
         }
         stand.place = Ok(spot.place);
+        stand.open_until = stand.open_until.max(spot.place.saturating_add(1));
         true
     }
 
@@ -216,9 +214,10 @@ impl<O: MibObject, L: Ledger> Successors<L> for Served<'_, O> {
             return self.has_name(name);
         }
         stand.asked = Some(place);
-        let under = self.vacm.in_view_under(self.view, name);
+        let under = self.view.under(name);
         if let Some(front) = shown_front(&under, name) {
             stand.until = self.registry.begun_until(front, place);
+            stand.open_until = stand.open_until.max(stand.until);
         }
         under.answer.is_included()
     }
@@ -240,7 +239,7 @@ impl<O: MibObject, L: Ledger> Source<L> for Served<'_, O> {
         let Some(prefix) = self.registry.owner_at(name, place) else {
             return Ok(None);
         };
-        if self.vacm.hides_all(self.view, prefix) {
+        if self.view.hides_all(first_place(place), prefix) {
             return Ok(None);
         }
         Ok(self.registry.read_at(alloc, self.world, name, place))

@@ -22,6 +22,8 @@ pub struct Stand {
     pub place: Result<usize, usize>,
     /// Of the objects from that place on and in front of this one the view shows every name.
     pub until: usize,
+    /// Of those in front of this one it is known that the view is not seen to hide them whole.
+    pub open_until: usize,
     /// The place of the object at which the view was asked last for a front. At that place no other
     /// front is asked for. No clause depends on it, only time does.
     pub asked: Option<usize>,
@@ -32,10 +34,12 @@ impl Stand {
     pub fn at(place: Result<usize, usize>) -> Stand
         ensures place { result.place ≡ place }
         ensures until { result.until ≡ 0 }
+        ensures open { result.open_until ≡ 0 }
     {
         Stand {
             place,
             until: 0,
+            open_until: 0,
             asked: None,
         }
     }

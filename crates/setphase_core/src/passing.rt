@@ -21,8 +21,9 @@ pub trait Passing {
     // Whether an object of that name is passed over.
     ghost passes: { Self → List ℕ → Bool };
 
-    /// Whether an object of that name is passed over. It takes no memory.
-    fn passes_over(&self, prefix: &[u32]) -> bool
+    /// Whether an object of that name is passed over. The place where it stands is a hint, on which no
+    /// answer depends. It takes no memory.
+    fn passes_over(&self, place: usize, prefix: &[u32]) -> bool
         ensures { result ≡ passes self.now prefix.now };
 }
 
@@ -54,7 +55,7 @@ fn is_passed<O: MibObject, P: Passing>(object: &O, place: usize, until: usize, p
     requires { place < until → P.passes passing.now (O.state object.now).row.prefix ≡ false }
     ensures { result ≡ P.passes passing.now (O.state object.now).row.prefix }
 {
-    place >= until && passing.passes_over(object.prefix())
+    place >= until && passing.passes_over(place, object.prefix())
 }
 
 // Writes the index of the first instance behind a name of an object whose name begins it, and says

@@ -42,7 +42,7 @@ impl Passing for PassesNone {
 
     ghost passes = { λ p prefix. false };
 
-    fn passes_over(&self, _prefix: &[u32]) -> bool {
+    fn passes_over(&self, _place: usize, _prefix: &[u32]) -> bool {
         false
     }
 }

@@ -6,7 +6,7 @@ ghost use Rattle.vacm_core.specs.Families.{family_beats};
 ghost use Rattle.vacm_core.specs.Hiding.{may_match, may_include, excludes_all, beats_included, hides_all};
 
 use crate::contest::{Contest, deciding_row};
-use crate::deciding::{agrees, is_longer_or_greater};
+use crate::deciding::{agrees_by_bits, is_longer_or_greater};
 use crate::name::Name;
 use crate::tables::FamilyRow;
 
@@ -31,8 +31,8 @@ impl<'a> Contest for HidingContest<'a> {
 
     fn passes(&self, row: &FamilyRow) -> bool {
         !row.included
+            && agrees_by_bits(row.mask.as_slice(), row.subtree.as_slice(), self.prefix)
             && row.view.is(self.view)
-            && agrees(row.mask.as_slice(), row.subtree.as_slice(), self.prefix)
     }
 
     fn beats(&self, row: &FamilyRow, other: &FamilyRow) -> bool {
@@ -71,11 +71,12 @@ fn may_include(row: &FamilyRow, view: &Name, prefix: &[u32]) -> bool
     row.included && may_match(row, view, prefix)
 }
 
+// The view is compared last, since most rows do not reach the prefix.
 fn may_match(row: &FamilyRow, view: &Name, prefix: &[u32]) -> bool
     ensures { result ≡ may_match view.now prefix.now row.now }
 {
     let reached = front(row.subtree.as_slice(), prefix.len());
-    row.view.is(view) && agrees(row.mask.as_slice(), reached, prefix)
+    agrees_by_bits(row.mask.as_slice(), reached, prefix) && row.view.is(view)
 }
 
 // The first parts, this many at most.

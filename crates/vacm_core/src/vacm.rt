@@ -286,6 +286,13 @@ impl Vacm {
         self.families.at(index)
     }
 
+    /// How many family rows there are, of all views (RFC 3415, vacmViewTreeFamilyTable).
+    pub fn family_count(&self) -> usize
+        ensures { result ≡ length self.now.families }
+    {
+        self.families.as_slice().len()
+    }
+
     /// Whether a view is seen to hide every name that begins so: no included row of it may match
     /// one of these names, or an excluded row that matches them all beats each that may (RFC
     /// 3415, vacmViewTreeFamilyTable). It may say no where all are hidden all the same, as by

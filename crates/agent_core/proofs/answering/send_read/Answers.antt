@@ -1,4 +1,4 @@
-use Rattle.std.proofs.Common.{◌≡◌, ◌∙◌, [], true, sym, rules, List, IfOk, subst}
+use Rattle.std.proofs.Common.{◌≡◌, ◌∙◌, [], true, ap, sym, rules, ℕ, List, IfOk, subst}
 use Rattle.message_core.specs.declared.request.Kind.TheVariants.{Get}
 use Rattle.setphase_core.specs.Registry.{rows_of, prefixes_of, instances}
 use Rattle.setphase_core.specs.Passing.{open_instances}
@@ -37,11 +37,12 @@ returns-clause-sent g c =
     let rows = rows_of c.args.registry.now in
     let request = c.args.request.now in
     let view = c.args.view.now in
-    let over : List FamilyRow → Type 0 = λ (families : List FamilyRow). IfOk c.send_kind-2.result (λ (read : ReadReply).
-    IsSentRead (kind_reply (prefixes_of rows) (in_view families view) (open_instances (hides_all families view) rows world) request request.kind) request
-    (LacksNameOf (in_view families view) (open_instances (hides_all families view) rows world) request request.kind) read c.send_kind-2.new.buffer.reply) in
-    let tables : c.vacm-vacm.result.now ≡ world.policy.vacm = c.vacm-vacm.ensures in
+    let over : List FamilyRow → List ℕ → Type 0 = λ (families : List FamilyRow) (name : List ℕ). IfOk c.send_kind-2.result (λ (read : ReadReply).
+    IsSentRead (kind_reply (prefixes_of rows) (in_view families name) (open_instances (hides_all families name) rows world) request request.kind) request
+    (LacksNameOf (in_view families name) (open_instances (hides_all families name) rows world) request request.kind) read c.send_kind-2.new.buffer.reply) in
+    let tables : c.of-view.result.families ≡ world.policy.vacm.families = c.of-view.ensures.families ∙ ap (λ (t : Tables). t.families) c.vacm.ensures in
     read_more request c.send_kind-2.result c.send_kind-2.new.buffer.reply
     (reply_open world.policy.vacm.families view rows world request request.kind)
     (lacks_open world.policy.vacm.families view rows world request request.kind)
-    (subst (λ (t : Tables). over t.families) tables c.send_kind-2.ensures.sent)
+    (subst (λ (name : List ℕ). over world.policy.vacm.families name) c.of-view.ensures.view
+    (subst (λ (families : List FamilyRow). over families c.of-view.result.view) tables c.send_kind-2.ensures.sent))
