@@ -25,8 +25,8 @@ use std::sync::{Arc, Wait};
 use std::thread::Threads;
 use std::time::Clock;
 use udp_agent::{
-    LastingControl, LastingTicker, LastingWorker, Reporter, ServeFault, Setup, UdpTicker,
-    UdpWorker, setup_of,
+    BeginFault, LastingControl, LastingTicker, LastingWorker, Reporter, ServeFault, Setup,
+    UdpTicker, UdpWorker, setup_of,
 };
 use wire_core::{LastingWire, Pace, SecondPace, Startup, UdpWire, Wire};
 
@@ -138,7 +138,7 @@ pub fn serve_opened_forever<
     audits: &Auditing<'r>,
     control: Option<ControlSocket<&'r R>>,
     startup: &Arc<Startup, Global>,
-) -> io::Result<Vec<End>>
+) -> Result<Vec<End>, BeginFault>
     ensures { IsServedForever
         ⟦<LastingWorker<'r, &'r R> as GatedWire>⟧.did
         ⟦<LastingWorker<'r, &'r R> as Wire>⟧.failures

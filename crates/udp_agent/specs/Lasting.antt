@@ -2,7 +2,6 @@
 use Rattle.std.specs.Prelude.{◌||◌, ◌≡◌, ℕ, Bool, true, false, List, [], ◌∷◌, Option, is_some, Result, Ok, Err, Vec}
 use Rattle.std.specs.declared.alloc.AllocError.{AllocError}
 use Rattle.std.specs.declared.alloc.Global.{Global}
-use Rattle.std.specs.declared.io.Error.{Error}
 use Rattle.wire_core.specs.Acts.{Act}
 use Rattle.history_core.specs.History.{History}
 use Rattle.live_agent.specs.Deeds.{Deed}
@@ -15,7 +14,8 @@ use Rattle.live_laps.specs.Laps.{HaveGoneOn}
 use Rattle.live_laps.specs.Lines.{all_lines}
 use Rattle.live_laps.specs.Notes.{Note}
 use Rattle.live_laps.specs.declared.line.Watched.{Watched}
-use Rattle.udp_agent.specs.Binding.{IsPlan, AreLines, AreAudited}
+use Rattle.udp_agent.specs.Binding.{IsPlan, AreLines, AreAudited, IsFaultOf}
+use Rattle.udp_agent.specs.declared.begin_fault.BeginFault.{BeginFault}
 use Rattle.udp_agent.specs.declared.setup.Setup.{Setup}
 
 -- a line that ended so failed: by its wire, or for want of memory
@@ -67,10 +67,10 @@ module _ {A W T C V P : Type 0} (worker_did : A → List Deed → A → Type 0) 
     pub pace : P
     pub served : HaveServed watch pace plan start run control ends
 
-  -- What comes of a setup that is served without an end: nothing is stated of where its sockets could
-  -- not be bound, where there was no memory to begin with, or where a task had not begun in time.
+  -- What comes of a setup that is served without an end. Where its sockets could not be bound, there was no
+  -- memory to begin with, or a task had not begun in time, a socket that is named has its address in the setup.
   abbrev pub IsServedForever : (A → Bool) → Setup → Bool → Bool → History
-      → Result (Vec End Global) Error → Type 0
+      → Result (Vec End Global) BeginFault → Type 0
   IsServedForever is_worker_audited setup asked controlled start (Ok ends) =
       IsServedForeverBy is_worker_audited setup asked controlled start ends.items
-  IsServedForever is_worker_audited setup asked controlled start (Err error) = Unit {0}
+  IsServedForever is_worker_audited setup asked controlled start (Err fault) = IsFaultOf setup fault

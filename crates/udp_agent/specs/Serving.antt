@@ -8,7 +8,7 @@ use Rattle.live_run.specs.Served.{Serves}
 use Rattle.live_run.specs.declared.lines.Lines.{Lines}
 use Rattle.live_run.specs.declared.report.Report.{Report}
 use Rattle.live_run.specs.declared.report.RunFault.{RunFault}
-use Rattle.udp_agent.specs.Binding.{IsPlan, AreLines}
+use Rattle.udp_agent.specs.Binding.{IsPlan, AreLines, IsFaultOf}
 use Rattle.udp_agent.specs.declared.serving.ServeFault.{ServeFault}
 use Rattle.udp_agent.specs.declared.serving.ServeFault.TheVariants.{Begin, Run}
 use Rattle.udp_agent.specs.declared.setup.Setup.{Setup}
@@ -33,8 +33,8 @@ module _ {A W T : Type 0} (worker_did : A → List Deed → A → Type 0) (worke
     pub bound : AreLines setup lines
     pub served : IsServing plan start lines answer
 
-  -- What comes of a setup: nothing is stated of where its sockets could not be bound.
+  -- What comes of a setup. Where nothing was served, a socket that is named has its address in the setup.
   abbrev pub IsServed : Setup → History → Result Report ServeFault → Type 0
   IsServed setup start (Ok report) = IsServingBy setup start (Ok report)
   IsServed setup start (Err (Run why)) = IsServingBy setup start (Err why)
-  IsServed setup start (Err (Begin error)) = Unit {0}
+  IsServed setup start (Err (Begin fault)) = IsFaultOf setup fault

@@ -1,7 +1,8 @@
 //! Binds the sockets of a setup.
-ghost use Rattle.std.specs.Prelude.{◌≡◌, ◌<◌, ◌≤◌, ◌-◌, ◌^◌, IfOk, map, length, vec_len};
-ghost use Rattle.udp_agent.specs.Binding.{IsPlan, AreLines};
+ghost use Rattle.std.specs.Prelude.{◌≡◌, ◌<◌, ◌≤◌, ◌-◌, ◌^◌, IfOk, IfErr, map, length, vec_len};
+ghost use Rattle.udp_agent.specs.Binding.{IsPlan, AreLines, IsUnbound, IsPortFault, IsRequestsFault, IsFaultOf};
 
+use crate::begin_fault::{BeginFault, SetupSocket};
 use crate::setup::{PortSockets, Setup};
 use configuration::Serve;
 use live_agent::{Gated, OpenGate, Paced, Plan};
@@ -21,11 +22,27 @@ pub type UdpTicker<C> = Paced<UdpWire, SecondPace<C>>;
 /// The lines of an agent over UDP.
 pub type UdpLines<C> = Lines<UdpWorker, UdpWire, UdpTicker<C>>;
 
-// The wires of the threads that answer requests, which share one socket.
-fn bind_workers<R: Net>(rt: &R, alloc: Global, serve: &Serve) -> io::Result<Vec<UdpWorker>>
-    ensures { IfOk result (λ workers. vec_len workers ≡ serve.now.workers) }
+// The wire of this socket of a setup, bound to its address.
+fn bind_wire<R: Net>(
+    rt: &R,
+    alloc: Global,
+    socket: SetupSocket,
+    address: SocketAddr,
+) -> Result<UdpWire, BeginFault>
+    ensures { IfErr result (IsUnbound socket address) }
 {
-    let socket = UdpWire::bind(rt, alloc, serve.snmp)?;
+    match UdpWire::bind(rt, alloc, address) {
+        Ok(wire) => Ok(wire),
+        Err(why) => Err(BeginFault::Unbound(socket, address, why)),
+    }
+}
+
+// The wires of the threads that answer requests, which share one socket.
+fn bind_workers<R: Net>(rt: &R, alloc: Global, serve: &Serve) -> Result<Vec<UdpWorker>, BeginFault>
+    ensures workers { IfOk result (λ workers. vec_len workers ≡ serve.now.workers) }
+    ensures fault { IfErr result (IsRequestsFault serve.now.snmp) }
+{
+    let socket = bind_wire(rt, alloc, SetupSocket::Requests, serve.snmp)?;
     let mut workers = Vec::new(alloc);
     for _ in 0..serve.workers {
         workers.push(Gated {
@@ -36,13 +53,36 @@ fn bind_workers<R: Net>(rt: &R, alloc: Global, serve: &Serve) -> io::Result<Vec<
     Ok(workers)
 }
 
+// The wire of the port at this place, counted from 0.
+fn bind_port<R: Net>(
+    rt: &R,
+    alloc: Global,
+    ports: &[PortSockets],
+    place: usize,
+) -> Result<UdpWire, BeginFault>
+    requires { place < length ports.now }
+    ensures { IfErr result (IsPortFault ports.now) }
+{
+    bind_wire(
+        rt,
+        alloc,
+        SetupSocket::Listen(place + 1),
+        ports[place].listen,
+    )
+}
+
 // The wires of the ports, each over a socket of its own.
-fn bind_ports<R: Net>(rt: &R, alloc: Global, ports: &[PortSockets]) -> io::Result<Vec<UdpWire>>
-    ensures { IfOk result (λ wires. vec_len wires ≡ length ports.now) }
+fn bind_ports<R: Net>(
+    rt: &R,
+    alloc: Global,
+    ports: &[PortSockets],
+) -> Result<Vec<UdpWire>, BeginFault>
+    ensures ports { IfOk result (λ wires. vec_len wires ≡ length ports.now) }
+    ensures fault { IfErr result (IsPortFault ports.now) }
 {
     let mut wires = Vec::new(alloc);
-    for port in ports {
-        wires.push(UdpWire::bind(rt, alloc, port.listen)?)?;
+    for place in 0..ports.len() {
+        wires.push(bind_port(rt, alloc, ports, place)?)?;
     }
     Ok(wires)
 }
@@ -99,15 +139,17 @@ pub(crate) fn few<A: Drop, W: Drop, T: Drop>(lines: Lines<A, W, T>) -> io::Resul
 /// says how many lines there are; which sockets they share is tested.
 ///
 /// # Errors
-/// That of the system, or of a refused growth; nothing is bound then. `InvalidInput` where more than
-/// 65,534 threads are to answer.
+/// The socket that could not be bound, its address and the system's reason; that of the system, or of a
+/// refused growth, of no socket. Nothing is bound then. `InvalidInput` where more than 65,534 threads are to
+/// answer.
 pub fn bind_lines<R: Net, C: Clock + Drop>(
     rt: &R,
     clock: C,
     alloc: Global,
     setup: &Setup,
-) -> io::Result<UdpLines<C>>
+) -> Result<UdpLines<C>, BeginFault>
     ensures lines { IfOk result (AreLines setup.now) }
+    ensures fault { IfErr result (IsFaultOf setup.now) }
     ensures few { IfOk result (λ lines.
         (vec_len lines.workers < 2 ^ 16 - 1) × (vec_len lines.ports < 2 ^ 16 - 1)) }
 {
@@ -117,9 +159,9 @@ pub fn bind_lines<R: Net, C: Clock + Drop>(
         wire: share_first(ports.as_slice())?,
         pace: SecondPace::new(clock),
     };
-    few(Lines {
+    Ok(few(Lines {
         workers,
         ports,
         ticker,
-    })
+    })?)
 }

@@ -4,6 +4,7 @@ ghost use Rattle.live_audit.specs.Audited.{is_audited};
 ghost use Rattle.udp_agent.specs.Binding.{is_audited_worker, tasks_of};
 ghost use Rattle.udp_agent.specs.Lasting.{is_failure, is_any_failure, IsServingForever, IsServedForever};
 
+use crate::begin_fault::BeginFault;
 use crate::binding::plan_of;
 use crate::lasting_binding::{LastingControl, LastingWorker, bind_lasting, control_wire};
 use crate::ready::{log_limit, log_ready, widen_requests};
@@ -127,8 +128,8 @@ fn refuse_failed(has_failed: bool) -> io::Result<()>
 /// lines end; a port whose first link finds no memory ends once it does.
 ///
 /// # Errors
-/// That of the system where a socket could not be bound, or that there was no memory for what the
-/// lines share, before any line ran; `TimedOut`, once all lines have ended, where a task had not begun in
+/// The socket that could not be bound, its address and the system's reason, or that there was no memory
+/// for what the lines share, before any line ran; `TimedOut`, once all lines have ended, where a task had not begun in
 /// time; no clause says that.
 pub fn serve_forever<
     'r,
@@ -145,7 +146,7 @@ pub fn serve_forever<
     audits: &Auditing<'r>,
     control: Option<ControlSocket<&'r R>>,
     startup: &Arc<Startup, Global>,
-) -> io::Result<Vec<End>>
+) -> Result<Vec<End>, BeginFault>
     ensures { IsServedForever
         ⟦<LastingWorker<'r, &'r R> as GatedWire>⟧.did
         ⟦<LastingWorker<'r, &'r R> as Wire>⟧.failures
@@ -164,7 +165,7 @@ pub fn serve_forever<
     let pace = StartingPace::new(rt, TaskStart::new(startup)?, Arc::try_clone(&missed)?)?;
     let lines = bind_lasting(rt, rt, pace, alloc, setup, &sending, startup, audits)?;
     let control = control_wire(lines.ports.as_slice(), control)?;
-    log_ready(log, version, setup, audits.queue().is_some());
+    log_ready(log, version, setup, &lines, audits.queue().is_some());
     log_limit(log);
     widen_requests(log, lines.workers.as_slice());
     let book = WorkTotals::new();

@@ -1,8 +1,9 @@
 //! Binds the sockets of a setup that is served without an end.
-ghost use Rattle.std.specs.Prelude.{◌≡◌, ◌<◌, ◌-◌, ◌^◌, All, IfOk, is_some, length, vec_len};
+ghost use Rattle.std.specs.Prelude.{◌≡◌, ◌<◌, ◌-◌, ◌^◌, All, IfOk, IfErr, is_some, length, vec_len};
 ghost use Rattle.live_audit.specs.Audited.{is_audited};
-ghost use Rattle.udp_agent.specs.Binding.{AreLines, AreAudited, is_audited_worker};
+ghost use Rattle.udp_agent.specs.Binding.{AreLines, AreAudited, is_audited_worker, IsUnbound, IsPortFault, IsRequestsFault, IsFaultOf};
 
+use crate::begin_fault::{BeginFault, SetupSocket};
 use crate::binding::few;
 use crate::setup::{PortSockets, Setup};
 use configuration::Serve;
@@ -13,7 +14,7 @@ use live_control::Controlled;
 use live_run::Lines;
 use std::alloc::Global;
 use std::io::{self, ErrorKind};
-use std::net::Net;
+use std::net::{Net, SocketAddr};
 use std::sync::Arc;
 use std::time::Clock;
 use wire_core::{LastingWire, Pace, SendingSockets, Startup};
@@ -46,6 +47,24 @@ fn worker_over<'b, C: Clock + Copy + Drop>(
     })
 }
 
+// The wire of this socket of a setup, bound to its address.
+fn bind_wire<R: Net, C: Clock + Copy + Drop>(
+    rt: &R,
+    clock: C,
+    alloc: Global,
+    socket: SetupSocket,
+    address: SocketAddr,
+    sending: &Arc<SendingSockets, Global>,
+    startup: &Arc<Startup, Global>,
+) -> Result<LastingWire<C>, BeginFault>
+    ensures { IfErr result (IsUnbound socket address) }
+{
+    match LastingWire::bind(rt, alloc, address, sending, startup, clock) {
+        Ok(wire) => Ok(wire),
+        Err(why) => Err(BeginFault::Unbound(socket, address, why)),
+    }
+}
+
 // The wires of the threads that answer requests, which share one socket, audited or not.
 fn bind_workers<'b, R: Net, C: Clock + Copy + Drop>(
     rt: &R,
@@ -55,17 +74,44 @@ fn bind_workers<'b, R: Net, C: Clock + Copy + Drop>(
     sending: &Arc<SendingSockets, Global>,
     startup: &Arc<Startup, Global>,
     audits: &Auditing<'b>,
-) -> io::Result<Vec<LastingWorker<'b, C>>>
+) -> Result<Vec<LastingWorker<'b, C>>, BeginFault>
+    ensures fault { IfErr result (IsRequestsFault serve.now.snmp) }
     ensures workers { IfOk result (λ workers. vec_len workers ≡ serve.now.workers) }
     ensures audited { IfOk result (λ workers.
         All (λ worker. is_audited_worker worker ≡ is_audited audits.now) workers.items) }
 {
-    let socket = LastingWire::bind(rt, alloc, serve.snmp, sending, startup, clock)?;
+    let address = serve.snmp;
+    let socket = bind_wire(
+        rt,
+        clock,
+        alloc,
+        SetupSocket::Requests,
+        address,
+        sending,
+        startup,
+    )?;
     let mut workers = Vec::new(alloc);
     for _ in 0..serve.workers {
         workers.push(worker_over(&socket, audits)?)?;
     }
     Ok(workers)
+}
+
+// The wire of the port at this place, counted from 0.
+fn bind_port<R: Net, C: Clock + Copy + Drop>(
+    rt: &R,
+    clock: C,
+    alloc: Global,
+    ports: &[PortSockets],
+    place: usize,
+    sending: &Arc<SendingSockets, Global>,
+    startup: &Arc<Startup, Global>,
+) -> Result<LastingWire<C>, BeginFault>
+    requires { place < length ports.now }
+    ensures { IfErr result (IsPortFault ports.now) }
+{
+    let (socket, address) = (SetupSocket::Listen(place + 1), ports[place].listen);
+    bind_wire(rt, clock, alloc, socket, address, sending, startup)
 }
 
 // The wires of the ports, each over a socket of its own.
@@ -76,12 +122,13 @@ fn bind_ports<R: Net, C: Clock + Copy + Drop>(
     ports: &[PortSockets],
     sending: &Arc<SendingSockets, Global>,
     startup: &Arc<Startup, Global>,
-) -> io::Result<Vec<LastingWire<C>>>
-    ensures { IfOk result (λ wires. vec_len wires ≡ length ports.now) }
+) -> Result<Vec<LastingWire<C>>, BeginFault>
+    ensures ports { IfOk result (λ wires. vec_len wires ≡ length ports.now) }
+    ensures fault { IfErr result (IsPortFault ports.now) }
 {
     let mut wires = Vec::new(alloc);
-    for port in ports {
-        wires.push(LastingWire::bind(rt, alloc, port.listen, sending, startup, clock)?)?;
+    for place in 0..ports.len() {
+        wires.push(bind_port(rt, clock, alloc, ports, place, sending, startup)?)?;
     }
     Ok(wires)
 }
@@ -129,8 +176,9 @@ pub fn bind_lasting<'b, R: Net, C: Clock + Copy + Drop, P: Pace>(
     sending: &Arc<SendingSockets, Global>,
     startup: &Arc<Startup, Global>,
     audits: &Auditing<'b>,
-) -> io::Result<LastingLines<'b, C, P>>
+) -> Result<LastingLines<'b, C, P>, BeginFault>
     ensures lines { IfOk result (AreLines setup.now) }
+    ensures fault { IfErr result (IsFaultOf setup.now) }
     ensures audited { IfOk result (AreAudited is_audited_worker (is_audited audits.now)) }
     ensures few { IfOk result (λ lines.
         (vec_len lines.workers < 2 ^ 16 - 1) × (vec_len lines.ports < 2 ^ 16 - 1)) }
@@ -141,9 +189,9 @@ pub fn bind_lasting<'b, R: Net, C: Clock + Copy + Drop, P: Pace>(
         wire: share_first(ports.as_slice())?,
         pace,
     };
-    few(Lines {
+    Ok(few(Lines {
         workers,
         ports,
         ticker,
-    })
+    })?)
 }

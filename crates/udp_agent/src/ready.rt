@@ -1,18 +1,33 @@
 //! Logs what is served, once all sockets are bound.
-use crate::lasting_binding::LastingWorker;
-use crate::setup::{PortSockets, Setup};
+use crate::lasting_binding::{LastingLines, LastingWorker};
+use crate::setup::Setup;
 use frame_core::Mac;
 use line_output::file_size_limit;
 use log::{Log, info, warn};
 use std::fmt;
 use std::fmt::{Display, Formatter};
+use std::net::SocketAddr;
 use std::time::Clock;
+use wire_core::LastingWire;
 
-/// Logs what an agent of this version serves, in one line of level Info: `agentd VERSION serves
-/// ADDRESS: requests at SOCKET by N workers; port 1 at LISTEN to PEER, port 2 at LISTEN to PEER`, with
-/// `, audited` behind the workers where each request is audited.
-pub fn log_ready<R: Log>(rt: &R, version: &str, setup: &Setup, is_audited: bool) {
-    info!(rt; "agentd {} serves {}", version, Served { setup, is_audited });
+/// Logs what an agent of this version serves over lines that are bound, in one line of level Info: `agentd
+/// VERSION serves ADDRESS: requests at SOCKET by N workers; port 1 at LISTEN to PEER, port 2 at LISTEN to
+/// PEER`, with `, audited` behind the workers where each request is audited. A socket is named by the address
+/// to which it is bound, also where the setup asks for any free port by 0.
+pub fn log_ready<G: Log, C: Clock + Copy, P>(
+    log: &G,
+    version: &str,
+    setup: &Setup,
+    lines: &LastingLines<'_, C, P>,
+    is_audited: bool,
+) {
+    let served = Served {
+        setup,
+        workers: lines.workers.as_slice(),
+        wires: lines.ports.as_slice(),
+        is_audited,
+    };
+    info!(log; "agentd {} serves {}", version, served);
 }
 
 /// Logs the limit of the sizes of files, where the system sets one, in a line of level Warn: an output that
@@ -50,14 +65,24 @@ pub(crate) fn widen_requests<G: Log, C: Clock + Copy>(log: &G, workers: &[Lastin
     }
 }
 
-// What a setup says, and whether requests are audited.
+// What a setup says, where its workers and its ports are bound, and whether requests are audited.
 #[derive(Drop)]
-struct Served<'a> {
+struct Served<'a, 'b, C> {
     setup: &'a Setup,
+    workers: &'a [LastingWorker<'b, C>],
+    wires: &'a [LastingWire<C>],
     is_audited: bool,
 }
 
-impl Display for Served<'_> {
+// The address to which a wire is bound, or where the system does not say, the one that was asked for.
+fn bound_to<C: Clock + Copy>(wire: Option<&LastingWire<C>>, asked: SocketAddr) -> SocketAddr {
+    match wire.map(LastingWire::local_addr) {
+        Some(Ok(address)) => address,
+        _ => asked,
+    }
+}
+
+impl<C: Clock + Copy> Display for Served<'_, '_, C> {
     fn fmt<W: fmt::Write>(&self, f: &mut Formatter<W>) -> fmt::Result {
         let setup = self.setup;
         let audited = if self.is_audited { ", audited" } else { "" };
@@ -65,32 +90,21 @@ impl Display for Served<'_> {
             f,
             "{}: requests at {} by {} workers{}",
             Hyphenated(setup.address),
-            setup.serve.snmp,
+            bound_to(
+                self.workers.first().map(|worker| &worker.wire),
+                setup.serve.snmp
+            ),
             setup.serve.workers,
             audited
         )?;
         for (index, port) in setup.ports.iter().enumerate() {
             let mark = if index == 0 { ';' } else { ',' };
+            let listen = bound_to(self.wires.get(index), port.listen);
             // Ports are counted from 1.
-            write!(
-                f,
-                "{} port {}{}",
-                mark,
-                index.saturating_add(1),
-                Sockets(port)
-            )?;
+            let number = index.saturating_add(1);
+            write!(f, "{} port {} at {} to {}", mark, number, listen, port.peer)?;
         }
         Ok(())
-    }
-}
-
-// The sockets of a port.
-#[derive(Drop)]
-struct Sockets<'a>(&'a PortSockets);
-
-impl Display for Sockets<'_> {
-    fn fmt<W: fmt::Write>(&self, f: &mut Formatter<W>) -> fmt::Result {
-        write!(f, " at {} to {}", self.0.listen, self.0.peer)
     }
 }
 

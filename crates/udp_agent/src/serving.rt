@@ -2,6 +2,7 @@
 ghost use Rattle.std.specs.Prelude.{◌≡◌, ◌<◌, ◌^◌, vec_len};
 ghost use Rattle.udp_agent.specs.Serving.{IsServing, IsServed};
 
+use crate::begin_fault::BeginFault;
 use crate::binding::{UdpTicker, UdpWorker, bind_lines, plan_of};
 use crate::setup::Setup;
 use history_core::Kept;
@@ -20,17 +21,28 @@ use wire_core::{UdpWire, Wire};
 #[derive(Debug, Drop)]
 pub enum ServeFault {
     /// A socket could not be bound, or there was no memory for what the lines share: nothing ran.
-    Begin(io::Error),
+    Begin(BeginFault),
     /// The run has no report.
     Run(RunFault),
 }
 
 impl From<io::Error> for ServeFault {
+    ghost use Rattle.udp_agent.specs.declared.begin_fault.BeginFault.TheVariants.{System};
+    ghost use Rattle.udp_agent.specs.declared.serving.ServeFault.TheVariants.{Begin};
+
+    ghost from_gives = { λ error fault. fault ≡ Begin (System error) };
+
+    fn from(error: io::Error) -> Self {
+        ServeFault::Begin(BeginFault::System(error))
+    }
+}
+
+impl From<BeginFault> for ServeFault {
     ghost use Rattle.udp_agent.specs.declared.serving.ServeFault.TheVariants.{Begin};
 
     ghost from_gives = { λ error fault. fault ≡ Begin error };
 
-    fn from(error: io::Error) -> Self {
+    fn from(error: BeginFault) -> Self {
         ServeFault::Begin(error)
     }
 }
@@ -58,8 +70,8 @@ pub fn serve_lines<
 /// a thread of its own, until each has made its rounds or ended before.
 ///
 /// # Errors
-/// `Begin` where a socket could not be bound, or there was no memory for what the lines share, before
-/// any line ran; no clause says that. `Run` where they ran, and have no report, or where there was no
+/// `Begin` where a socket could not be bound, which it names, or there was no memory for what the lines
+/// share, before any line ran; no clause says which. `Run` where they ran, and have no report, or where there was no
 /// memory to begin with.
 pub fn serve<'r, O: MibObject + Send, R: Threads + Wait + Net + Clock + Sync>(
     rt: &'r R,
