@@ -10,7 +10,7 @@ use Rattle.explain.specs.Explaining.{explanation}
 use Rattle.explain.specs.Questions.{IsQuestion, IsFirstNoName}
 use Rattle.agent_words.specs.Asking.{Inquiry}
 use Rattle.agent_words.specs.declared.asked.Operation.{Operation}
-use Rattle.agent_words.specs.declared.asked.Operation.TheVariants.{Get, GetNext, Set}
+use Rattle.agent_words.specs.declared.asked.Operation.TheVariants.{Get, GetNext, GetBulk, Set}
 use Rattle.agent_program.specs.declared.files.FileLimit.TheVariants as limit
 use Rattle.agent_program.specs.declared.files.NotRead.{NotRead}
 use Rattle.agent_program.specs.declared.opening.NotRun.{NotRun}
@@ -25,6 +25,7 @@ use Rattle.agent_program.specs.Reporting.{IsReported}
 abbrev pub kind_by : Operation → Kind
 kind_by Get = kind.Get
 kind_by GetNext = kind.GetNext
+kind_by GetBulk = kind.GetBulk
 kind_by Set = kind.Set
 
 -- the request that is asked about

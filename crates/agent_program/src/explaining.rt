@@ -20,6 +20,7 @@ fn kind_by(operation: Operation) -> Kind
     match operation {
         Operation::Get => Kind::Get,
         Operation::GetNext => Kind::GetNext,
+        Operation::GetBulk => Kind::GetBulk,
         Operation::Set => Kind::Set,
     }
 }

@@ -1,5 +1,5 @@
 -- What the setters of a command make of its words.
-use Rattle.std.proofs.Common.{◌≡◌, ◌∙◌, ◌||◌, ℕ, Bool, true, List, Option, Some, ap, ap₂}
+use Rattle.std.proofs.Common.{◌≡◌, ◌∙◌, ◌||◌, ℕ, true, List, Option, Some, ap, ap₂}
 use Rattle.std.specs.Borrow.{Bor}
 use Rattle.clap.specs.Words.{AddsArg, App, Rule, with_rule}
 use Rattle.clap.specs.Simple.{app_of_fields}
@@ -23,12 +23,6 @@ explained app c d text is has = record {
 pub versioned : (app : App) (c d : Command) (text : Bor (List ℕ)) → out-Command d ≡ record (out-Command c) { version = Some text } → HasWords app c → HasWords (record app { top = record app.top { has_version = true } }) d
 versioned app c d text is has = record {
   words = ap app_of_fields is ∙ ap (λ (a : App). record a { top = record a.top { has_version = true } }) has.words;
-  local = ap (λ f. f.has_globals) is ∙ has.local;
-}
-
-pub without_help : (app : App) (c d : Command) (wanted : Bool) → out-Command d ≡ record (out-Command c) { disable_help_subcommand = wanted } → HasWords app c → HasWords (record app { top = record app.top { disable_help_subcommand = wanted } }) d
-without_help app c d wanted is has = record {
-  words = ap app_of_fields is ∙ ap (λ (a : App). record a { top = record a.top { disable_help_subcommand = wanted } }) has.words;
   local = ap (λ f. f.has_globals) is ∙ has.local;
 }
 

@@ -10,7 +10,7 @@ use Rattle.agent_words.specs.declared.asked.Asked.TheVariants.{BuiltIn, Script, 
 use Rattle.agent_words.specs.declared.asked.Lasting.{Lasting}
 use Rattle.agent_words.specs.declared.asked.Lasting.TheVariants.{Rounds, Forever}
 use Rattle.agent_words.specs.declared.asked.Operation.{Operation}
-use Rattle.agent_words.specs.declared.asked.Operation.TheVariants.{Get, GetNext, Set}
+use Rattle.agent_words.specs.declared.asked.Operation.TheVariants.{Get, GetNext, GetBulk, Set}
 use Rattle.agent_words.specs.declared.asked.Question.{Question}
 
 -- a request of this community for these names, as they are written
@@ -69,6 +69,7 @@ abbrev pub operation_of : Text → Option Operation
 operation_of word =
     if bytes_eq word (codes "get") then Some Get
     else if bytes_eq word (codes "next") then Some GetNext
+    else if bytes_eq word (codes "bulk") then Some GetBulk
     else if bytes_eq word (codes "set") then Some Set
     else None
 

@@ -10,6 +10,10 @@ pub record IsArgument (rule : Rule) (a : Arg) : Type 0 where
   pub ruled : rule_of a ≡ rule
   pub local : a.global ≡ false
 
+-- a command as another one, under a name of its own in its usage
+abbrev pub IsCalled : Command → Command → Type 0
+IsCalled c d = out-Command d ≡ record (out-Command c) { bin_name = (out-Command d).bin_name }
+
 -- a command of these words, which hands no argument down
 pub record HasWords (app : App) (c : Command) : Type 0 where
   pub words : app_of c ≡ app

@@ -1,5 +1,7 @@
--- The words of `agentd` as `clap` reads them: one command with five subcommands, none of which has to stand.
-use Rattle.std.specs.Prelude.{codes, true, false, [], ◌∷◌, Some}
+-- The words of `agentd` as `clap` reads them: one command with five subcommands, none of which has to stand, beside
+-- clap's own `help`.
+use Rattle.std.specs.Prelude.{codes, true, false, if◌then◌else◌, [], ◌∷◌, Some}
+use Rattle.std.specs.Str.{bytes_eq}
 use Rattle.clap.specs.Lexer.{usize_max}
 use Rattle.clap.specs.Words.{App, Rule, Shape, Text, new_rule}
 use Rattle.clap.specs.Simple.{new_shape}
@@ -71,10 +73,7 @@ tell_shape = record (new_shape (codes "tell")) {
 
 -- what stands in front of that
 abbrev pub agent_shape : Shape
-agent_shape = record (new_shape (codes "agentd")) {
-  has_version = true;
-  disable_help_subcommand = true;
-}
+agent_shape = record (new_shape (codes "agentd")) { has_version = true }
 
 -- The words of `agentd`.
 abbrev pub agent_app : App
@@ -82,3 +81,15 @@ agent_app = record {
   top = record agent_shape { is_leaf = false };
   subs = file_shape (codes "script") ∷ (file_shape (codes "check") ∷ (serve_shape ∷ (explain_shape ∷ (tell_shape ∷ []))));
 }
+
+-- one subcommand by itself
+abbrev pub alone : Shape → App
+alone shape = record { top = shape; subs = [] }
+
+-- the words that the usage shows under a mistake in those of a subcommand: its own
+abbrev pub usage_app : Text → App
+usage_app name =
+    if bytes_eq name (codes "serve") then alone serve_shape
+    else if bytes_eq name (codes "explain") then alone explain_shape
+    else if bytes_eq name (codes "tell") then alone tell_shape
+    else agent_app

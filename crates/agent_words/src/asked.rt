@@ -48,6 +48,9 @@ pub enum Operation {
     Get,
     /// A GetNext.
     GetNext,
+    /// A GetBulk. It asks for the view to read by, as a Get and a GetNext do. What is answered for it is the
+    /// same as for those: whether each name itself is in that view, and not the instances behind it.
+    GetBulk,
     /// A Set.
     Set,
 }

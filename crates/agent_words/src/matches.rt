@@ -190,6 +190,7 @@ fn operation_of(word: &str) -> Option<Operation>
     match word {
         "get" => Some(Operation::Get),
         "next" => Some(Operation::GetNext),
+        "bulk" => Some(Operation::GetBulk),
         "set" => Some(Operation::Set),
         _ => None,
     }

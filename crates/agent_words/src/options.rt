@@ -1,8 +1,8 @@
 //! The words of `agentd`, and what its help says of them.
 ghost use Rattle.std.specs.Prelude.{[], codes, IfOk, IsOkAnd};
 ghost use Rattle.clap.specs.Words.{AddsArg, AddsSubcommand};
-ghost use Rattle.agent_words.specs.Options.{config_option, control_option, control_needed, flag_rule, one_word, some_words, file_shape, serve_shape, explain_shape, tell_shape, agent_shape, agent_app};
-ghost use Rattle.agent_words.specs.Built.{IsArgument, HasWords};
+ghost use Rattle.agent_words.specs.Options.{config_option, control_option, control_needed, flag_rule, one_word, some_words, file_shape, serve_shape, explain_shape, tell_shape, agent_shape, agent_app, usage_app};
+ghost use Rattle.agent_words.specs.Built.{IsArgument, IsCalled, HasWords};
 
 use clap::builder::ValueParser;
 use clap::{Arg, ArgAction, Command};
@@ -56,20 +56,32 @@ With --control, which wants --forever, the agent does what 'agentd tell' asks of
 of that path. The directory of PATH has to be the agent's own, and closed to all others.
 
 Exit status: 0; 1 if nothing could be served, or if one of them failed; 2 if the words are no
-command, or if FILE cannot be read or is refused.";
+command, or if FILE cannot be read or is refused.
+
+Examples:
+  agentd serve --forever --config agentd.toml
+  agentd serve --forever --audit --control /run/agentd/control --config agentd.toml";
 
 /// How the text of a decision reads.
 const EXPLAIN_HELP: &str =
-    "The first line is the verdict, in the words of an audit: drop and the cause; why the request is
+    "get, next and bulk ask for the view to read by, set for the view to write by. NAME may begin with
+a dot, as Net-SNMP's tools print it.
+
+The first line is the verdict, in the words of an audit: drop and the cause; why the request is
 refused; or ok, the access row that decides, and the view that it names, as
 ok access(readers,,2,1) view bridge.
 
 Where it is ok, a line for each NAME says whether it is in the view, and by which family of the view:
 NAME in of view V by family(V,SUBTREE), NAME out of view V by family(V,SUBTREE), or
-NAME out of view V by none.
+NAME out of view V by none. It says that of NAME itself, also for next and bulk, which answer what
+stands behind it.
 
 Exit status: 0; 1 if that cannot be printed; 2 if the words are no command, if a NAME is none, or if
-FILE cannot be read or is refused.";
+FILE cannot be read or is refused.
+
+Examples:
+  agentd explain --config agentd.toml public get 1.3.6.1.2.1.17.1.2.0
+  agentd explain --config agentd.toml admin set .1.3.6.1.2.1.17.2.2.0";
 
 /// The commands for a served agent.
 const TELL_HELP: &str = "COMMAND is one of:
@@ -81,7 +93,12 @@ const TELL_HELP: &str = "COMMAND is one of:
 The agent runs with 'agentd serve --forever --control PATH'. What it answers is printed.
 
 Exit status: 0; 1 if no answer comes within two seconds, or if it is badline, policy refused, short
-or full; 2 if the words are no command, or if POLICYFILE cannot be read.";
+or full; 2 if the words are no command, or if POLICYFILE cannot be read.
+
+Examples:
+  agentd tell --control /run/agentd/control link 2 down
+  agentd tell --control /run/agentd/control policy policy.toml
+  agentd tell --control /run/agentd/control counts";
 
 /// The words of `agentd`: a subcommand for what is done with a file, and one for a served agent.
 pub(crate) fn agent_command<'a>(alloc: Global) -> Result<Command<'a>, AllocError>
@@ -92,6 +109,29 @@ pub(crate) fn agent_command<'a>(alloc: Global) -> Result<Command<'a>, AllocError
     let agent = added(agent, serve_command(alloc));
     let agent = added(agent, explain_command(alloc));
     added(agent, tell_command(alloc))
+}
+
+/// The subcommand of this name by itself, by which the usage is printed under a mistake in its words; the
+/// whole command where no words of that subcommand are mistaken in such a way.
+pub(crate) fn usage_command<'a>(alloc: Global, name: &str) -> Result<Command<'a>, AllocError>
+    ensures { IfOk result (HasWords (usage_app name.now)) }
+{
+    match name {
+        "serve" => called(serve_command(alloc), "agentd serve"),
+        "explain" => called(explain_command(alloc), "agentd explain"),
+        "tell" => called(tell_command(alloc), "agentd tell"),
+        _ => agent_command(alloc),
+    }
+}
+
+// A command whose usage begins with these words, where the command is made.
+fn called<'a>(
+    command: Result<Command<'a>, AllocError>,
+    words: &str,
+) -> Result<Command<'a>, AllocError>
+    ensures { IfOk result (λ r. IsOkAnd command.entry (λ c. IsCalled c r)) }
+{
+    command?.bin_name(words)
 }
 
 // A command with a subcommand more, where both are made.
@@ -123,7 +163,6 @@ fn agent_options<'a>(alloc: Global) -> Command<'a>
         .about("An SNMPv2c agent of a bridge, driven by a script or served over UDP")
         .after_help(AFTER_HELP)
         .version(VERSION)
-        .disable_help_subcommand(true)
 }
 
 // `script`: the script by a file.
@@ -185,7 +224,7 @@ fn explain_command<'a>(alloc: Global) -> Result<Command<'a>, AllocError>
         "COMMUNITY",
         "The community; behind '--' if it begins with '-'",
     );
-    let request = one_word(alloc, "REQUEST", "get, next or set");
+    let request = one_word(alloc, "REQUEST", "get, next, bulk or set");
     let names = some_words(
         alloc,
         "NAME",

@@ -9,10 +9,10 @@ ghost use Rattle.agent_words.specs.Answers.{IsText, IsRefusal, IsAnswerTo, IsAns
 
 use crate::asked::Asked;
 use crate::matches::{asked_in, is_given};
-use crate::options::agent_command;
+use crate::options::{agent_command, usage_command};
 use clap::error::ErrorKind;
 use clap::{ArgMatches, Command, Error};
-use std::alloc::Global;
+use std::alloc::{AllocError, Global};
 use std::io::Write;
 
 /// How words that are no command were answered.
@@ -70,17 +70,13 @@ fn asked_with<'a>(
     ensures refused { IfErr result (IsRefusal (map string_bytes words.now)) }
 {
     match agent.try_get_matches_from_mut(words) {
-        Ok(matches) => asked_of_matches(alloc, agent, &matches),
+        Ok(matches) => asked_of_matches(alloc, &matches),
         Err(error) => Err(error),
     }
 }
 
 // What matches ask for, or the error of them where they ask for nothing.
-fn asked_of_matches<'a>(
-    alloc: Global,
-    agent: &mut Command<'_>,
-    matches: &ArgMatches<'a>,
-) -> Result<Asked<'a>, Error>
+fn asked_of_matches<'a>(alloc: Global, matches: &ArgMatches<'a>) -> Result<Asked<'a>, Error>
     ensures asked { IfOk result (λ asked.
         asking_in (subcommand_rows_of matches.now) ≡ Some (asked_view asked)) }
     ensures refused { IfErr result (λ error. (kind_of error ≡ OutOfMemory)
@@ -89,7 +85,7 @@ fn asked_of_matches<'a>(
 {
     match asked_in(alloc, matches) {
         Ok(Some(asked)) => Ok(asked),
-        Ok(None) => Err(nothing_asked(agent, mistake_in(matches))),
+        Ok(None) => Err(nothing_asked(alloc, matches)),
         Err(error) => Err(Error::from(error)),
     }
 }
@@ -97,21 +93,33 @@ fn asked_of_matches<'a>(
 // What is wrong with matches that ask for nothing, though clap lets them pass.
 fn mistake_in(matches: &ArgMatches<'_>) -> &'static str {
     match matches.subcommand() {
-        Some(("explain", _)) => "a request is get, next or set",
+        Some(("explain", _)) => "a request is get, next, bulk or set",
         Some(("tell", _)) => "a command is link P up, link P down, counts or policy POLICYFILE",
         Some((_, entered)) if !is_given(entered, "audit") => "--control wants --forever",
         _ => "--audit wants --forever",
     }
 }
 
-// The error of matches that ask for nothing, with the usage.
-fn nothing_asked(agent: &mut Command<'_>, mistake: &'static str) -> Error
+// The error of matches that ask for nothing, with the usage of their subcommand.
+fn nothing_asked(alloc: Global, matches: &ArgMatches<'_>) -> Error
     ensures { (kind_of result ≡ OutOfMemory) ⊎ (kind_of result ≡ ValueValidation) }
 {
-    match agent.error(ErrorKind::ValueValidation, mistake) {
+    match mistake_of(alloc, matches) {
         Ok(error) => error,
         Err(error) => Error::from(error),
     }
+}
+
+// The same, where there is memory for it.
+fn mistake_of(alloc: Global, matches: &ArgMatches<'_>) -> Result<Error, AllocError>
+    ensures { IfOk result (λ error. kind_of error ≡ ValueValidation) }
+{
+    let mistake = mistake_in(matches);
+    let mut command = match matches.subcommand() {
+        Some((name, _)) => usage_command(alloc, name)?,
+        None => agent_command(alloc)?,
+    };
+    command.error(ErrorKind::ValueValidation, mistake)
 }
 
 // Writes what an error of the words says, help and the version on the output.

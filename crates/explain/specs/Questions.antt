@@ -1,5 +1,5 @@
 -- Which request the words of a question make.
-use Rattle.std.specs.Prelude.{◌≡◌, ℕ, ◌≤◌, List, [], ◌∷◌, ◌++◌, length, pos}
+use Rattle.std.specs.Prelude.{◌≡◌, ℕ, ◌≤◌, ◌==◌, if◌then◌else◌, List, [], ◌∷◌, ◌++◌, length, pos, Option, Some, None, unwrap_or}
 use Rattle.std.specs.List.{AllByRecursion}
 use Rattle.oid_core.specs.Text.{IsDotted}
 use Rattle.oid_core.specs.declared.limits.TheConstants.{MAX_NUMBERS}
@@ -10,9 +10,19 @@ use Rattle.message_core.specs.declared.request.Request.{Request}
 use Rattle.explain.specs.declared.questions.QuestionFault.{QuestionFault}
 use Rattle.explain.specs.declared.questions.QuestionFault.TheVariants.{Memory, Name}
 
--- a word is the dotted text of a name of at most 128 sub-identifiers (RFC 2578, section 3.5)
+-- what stands behind a dot that a word begins with, if it does; 46 is the dot
+abbrev pub behind_dot : List ℕ → Option (List ℕ)
+behind_dot [] = None
+behind_dot (c ∷ rest) = if c == 46 then Some rest else None
+
+-- a word without the one dot that Net-SNMP's tools print in front of a name
+abbrev pub without_front_dot : List ℕ → List ℕ
+without_front_dot word = unwrap_or (behind_dot word) word
+
+-- a word, behind the dot that may stand in front of it, is the dotted text of a name of at most 128
+-- sub-identifiers (RFC 2578, section 3.5)
 pub record IsNameText (word name : List ℕ) : Type 0 where
-  pub dotted : IsDotted word name
+  pub dotted : IsDotted (without_front_dot word) name
   pub most : length name ≤ MAX_NUMBERS
 
 -- a variable that is asked for, with the value NULL (RFC 3416, section 4.2.1)

@@ -1,7 +1,7 @@
 //! The request of a question.
-ghost use Rattle.std.specs.Prelude.{◌≡◌, map, IfOk, IfErr};
+ghost use Rattle.std.specs.Prelude.{◌≡◌, map, option_map, IfOk, IfErr};
 ghost use Rattle.explain.specs.declared.questions.QuestionFault.TheVariants.{Memory};
-ghost use Rattle.explain.specs.Questions.{AreAskedBy, IsNameText, IsQuestion, IsFaultOf, IsNameFault};
+ghost use Rattle.explain.specs.Questions.{AreAskedBy, behind_dot, without_front_dot, IsNameText, IsQuestion, IsFaultOf, IsNameFault};
 
 use message_core::{Binding, Bindings, Kind, Octets, Request, Value};
 use oid_core::{Oid, OidFault};
@@ -12,7 +12,8 @@ use std::alloc::{AllocError, Global};
 pub enum QuestionFault<'a> {
     /// There was no memory for it.
     Memory,
-    /// This word is no object identifier: numbers below 2^32 with dots between, at most 128.
+    /// This word is no object identifier: numbers below 2^32 with dots between, at most 128, and it may
+    /// be one dot in front.
     Name(&'a str),
 }
 
@@ -24,8 +25,10 @@ impl From<AllocError> for QuestionFault<'_> {
     }
 }
 
-/// The request of this PDU type and community for the names of these words, each with NULL. Its
-/// request-id, error-status and error-index are 0.
+/// The request of this PDU type and community for the names of these words, each with NULL. One dot may
+/// stand in front of a word, as Net-SNMP's tools print it; it is no part of the name. The request-id is
+/// 0, as are error-status and error-index, and of a GetBulk non-repeaters and max-repetitions: the
+/// decision, which asks for the view to read by, depends on none of them.
 ///
 /// # Errors
 /// `Name` with the first word that is no object identifier; `Memory` where there is none for it.
@@ -68,12 +71,29 @@ fn bindings_of<'a>(alloc: Global, words: &[&'a str]) -> Result<Bindings, Questio
     Ok(bindings)
 }
 
+// What stands behind the dot that a word begins with, if it does.
+fn behind_dot(word: &str) -> Option<&str>
+    ensures { option_map (λ rest. rest.now) result ≡ behind_dot word.now }
+{
+    word.strip_prefix('.')
+}
+
+// The word without one dot in front.
+fn without_front_dot(word: &str) -> &str
+    ensures { result.now ≡ without_front_dot word.now }
+{
+    match behind_dot(word) {
+        Some(rest) => rest,
+        None => word,
+    }
+}
+
 // The name of a word.
 fn name_of<'a>(alloc: Global, word: &'a str) -> Result<Oid, QuestionFault<'a>>
     ensures name { IfOk result (λ name. IsNameText word.entry.now name) }
     ensures fault { IfErr result (IsNameFault word.entry.now) }
 {
-    match Oid::parse(alloc, word) {
+    match Oid::parse(alloc, without_front_dot(word)) {
         Ok(name) => Ok(name),
         Err(OidFault::Memory) => Err(QuestionFault::Memory),
         Err(_) => Err(QuestionFault::Name(word)),

@@ -1,7 +1,7 @@
-use Rattle.std.proofs.Common.{codes, true}
+use Rattle.std.proofs.Common.{codes}
 use Rattle.clap.specs.Words.{App, new_app}
 use Rattle.agent_words.specs.Built.{HasWords}
-use Rattle.agent_words.proofs.Worded.{described, explained, versioned, without_help}
+use Rattle.agent_words.proofs.Worded.{described, explained, versioned}
 use Rattle.agent_words.proofs.options.agent_options.Goals as goal
 
 pub returns : goal.returns
@@ -10,5 +10,4 @@ returns c =
     let h : HasWords none c.new.result = record { words = c.new.ensures.app; local = c.new.ensures.local } in
     let h1 = described none c.new.result c.about.result _ c.about.ensures h in
     let h2 = explained none c.about.result c.after_help.result _ c.after_help.ensures h1 in
-    let h3 = versioned none c.after_help.result c.version.result _ c.version.ensures h2 in
-    without_help _ c.version.result c.disable_help_subcommand.result true c.disable_help_subcommand.ensures h3
+    versioned none c.after_help.result c.version.result _ c.version.ensures h2
