@@ -1,5 +1,5 @@
 -- Which words write which names and values of a request.
-use Rattle.std.specs.Prelude.{◌≡◌, ◌≢◌, ℕ, ◌≤◌, ◌==◌, ℤ, FitsSigned, Bool, codes, List, [], ◌∷◌, ◌++◌, length, decimal, pos, Option, Some, None, Result, Ok, Err}
+use Rattle.std.specs.Prelude.{◌≡◌, ◌≢◌, ℕ, ◌≤◌, ◌==◌, ℤ, FitsSigned, Bool, true, false, codes, List, [], ◌∷◌, ◌++◌, length, decimal, pos, Option, Some, None, Result, Ok, Err, slice_index}
 use Rattle.std.specs.Int.{w32}
 use Rattle.std.specs.Fmt.{signed_decimal}
 use Rattle.std.specs.List.{before_first, after_first}
@@ -12,7 +12,7 @@ use Rattle.message_core.specs.declared.value.Value.TheVariants.{Integer, OctetSt
 use Rattle.message_core.specs.declared.binding.Binding.{Binding}
 use Rattle.manager_words.specs.declared.bindings.TheConstants.{MAX_INTEGER}
 use Rattle.manager_words.specs.declared.fault.WordsFault.{WordsFault}
-use Rattle.manager_words.specs.declared.fault.WordsFault.TheVariants.{Memory}
+use Rattle.manager_words.specs.declared.fault.WordsFault.TheVariants.{Memory, Missing, Tries, Number, Address, Community, FrontDot, Name, Assignment, Request}
 
 -- A value of a kind was read; or there is none, unless there was no memory for it.
 abbrev pub Reads : {X : Type 0} → (X → Type 0) → Result X WordsFault → Type 0
@@ -45,6 +45,26 @@ pub record IsNameText (word name : List ℕ) : Type 0 where
   pub dotted : IsDotted word name
   pub most : length name ≤ MAX_NUMBERS
   pub root : HasRoot name
+
+-- a word begins with a dot, as Net-SNMP's tools print a name; 46 is the dot
+abbrev pub begins_with_dot : List ℕ → Bool
+begins_with_dot word = slice_index word 0 == 46
+
+-- Why a word gives no name: there is no memory for it; or it is the text of none, and begins with a dot, or
+-- does not.
+abbrev pub IsNameFault : List ℕ → WordsFault → Type 0
+IsNameFault word Memory = Unit {0}
+IsNameFault word (FrontDot named) =
+    (named.now ≡ word) × (begins_with_dot word ≡ true) × ((name : List ℕ) → ¬ IsNameText word name)
+IsNameFault word (Name named) =
+    (named.now ≡ word) × (begins_with_dot word ≡ false) × ((name : List ℕ) → ¬ IsNameText word name)
+IsNameFault word (Missing id) = ⊥
+IsNameFault word Tries = ⊥
+IsNameFault word (Number id) = ⊥
+IsNameFault word (Address named) = ⊥
+IsNameFault word Community = ⊥
+IsNameFault word (Assignment named) = ⊥
+IsNameFault word Request = ⊥
 
 -- a name that is asked for, which has the value NULL
 pub record IsAskedText (word : List ℕ) (b : Binding) : Type 0 where

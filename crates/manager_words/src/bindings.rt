@@ -1,7 +1,7 @@
 //! The names and values of a request, by the words that write them.
-ghost use Rattle.std.specs.Prelude.{map, IfOk};
+ghost use Rattle.std.specs.Prelude.{map, IfOk, IfErr};
 ghost use Rattle.message_core.specs.Encodable.{AreEncodable};
-ghost use Rattle.manager_words.specs.Bindings.{Reads, Finds, IsPlainIntegerText, IsIntegerText, IsNameText, IsAskedText, IsValueText, IsSettingText, AreSomeTexts};
+ghost use Rattle.manager_words.specs.Bindings.{Reads, Finds, IsPlainIntegerText, IsIntegerText, IsNameText, IsNameFault, IsAskedText, IsValueText, IsSettingText, AreSomeTexts};
 
 use crate::fault::WordsFault;
 use message_core::{Binding, Bindings, Octets, Value};
@@ -49,11 +49,13 @@ pub(crate) fn settings_of<'a>(alloc: Global, words: &[&'a str]) -> Result<Bindin
 
 /// The name of a word, where it has an encoding.
 pub(crate) fn name_of<'a>(alloc: Global, word: &'a str) -> Result<Oid, WordsFault<'a>>
-    ensures { Reads (IsNameText word.entry.now) result }
+    ensures read { Reads (IsNameText word.entry.now) result }
+    ensures fault { IfErr result (IsNameFault word.entry.now) }
 {
     match Oid::parse(alloc, word) {
         Ok(name) if name.is_encodable() => Ok(name),
         Err(OidFault::Memory) => Err(WordsFault::Memory),
+        _ if word.starts_with('.') => Err(WordsFault::FrontDot(word)),
         _ => Err(WordsFault::Name(word)),
     }
 }

@@ -21,6 +21,8 @@ pub(crate) enum WordsFault<'a> {
     Address(&'a str),
     /// The community has more than `MAX_COMMUNITY` octets.
     Community,
+    /// This word begins with a dot, and a name does not.
+    FrontDot(&'a str),
     /// This word is no name, or one that has no encoding.
     Name(&'a str),
     /// This word is no setting.
@@ -55,6 +57,12 @@ impl<'a> fmt::Display for WordsFault<'a> {
             WordsFault::Community => write!(
                 f,
                 "invalid value for '<COMMUNITY>': more than {MAX_COMMUNITY} octets"
+            ),
+            WordsFault::FrontDot(word) => write!(
+                f,
+                "invalid value '{word}' for '<NAME>': not an object identifier of 2 to 128 numbers
+
+  tip: a name has no dot in front of its first number"
             ),
             WordsFault::Name(word) => write!(
                 f,
