@@ -3,4 +3,5 @@ pub mod BoundLemmas
 pub mod NoFault
 pub mod PolicyFaults
 pub mod PortLemmas
+pub mod SubtreeLemmas
 pub mod Without

@@ -9,4 +9,9 @@ pub mod Serving
 pub mod PolicyKeys
 pub mod Configurations
 pub mod Bounds
+pub mod AddressFaults
+pub mod KnownKeys
+pub mod Rows
+pub mod Shown
 pub mod Sentences
+pub mod Details

@@ -3,8 +3,10 @@
 //!
 //! # Entry points
 //! [`configuration_in`] reads octets, [`configuration_of_text`] a text, [`configuration_of`] a
-//! table of TOML; each gives the configuration or its first fault. [`sentence`] is what an operator
-//! reads of a fault. A [`Configuration`] has its [`Port`]s, and a [`Serve`] where it says how to
+//! table of TOML; each gives the configuration or its first fault. [`sentence_in`] is what an operator
+//! reads of a fault of octets: [`NO_MEMORY`] where there was none to read them; what it prints of a name
+//! that a stranger wrote and of what TOML's reader says has [`MAX_NAME_SHOWN`] and
+//! [`MAX_MESSAGE_SHOWN`] octets at most. A [`Configuration`] has its [`Port`]s, and a [`Serve`] where it says how to
 //! serve; a [`ConfigurationFault`] is a first fault, some by a [`PortKey`], a [`ServeKey`] or a
 //! [`PolicyKey`]. [`BUILT_IN`] is the text where none is given; [`MAX_WORKERS`] and [`MAX_ROUNDS`]
 //! bound what serves.
@@ -15,7 +17,9 @@
 //! `specs/PolicyKeys.antt`, with `specs/Numbers.antt` and `specs/Sockets.antt` for their values;
 //! `specs/PortFaults.antt`: why a table says no ports; `specs/Faults.antt`: a policy's fault as one
 //! of its configuration; `specs/Bounds.antt`: the bounds of each; `specs/Lines.antt`: the lines of
-//! a text; `specs/Sentences.antt`: the text of each fault.
+//! a text; `specs/Sentences.antt`: the text of each fault by itself; `specs/Details.antt`: that by the
+//! text it is in, for which `specs/AddressFaults.antt`, `specs/KnownKeys.antt` and `specs/Rows.antt` say
+//! which key is wrong or unknown; `specs/Shown.antt`: how a stranger's text is printed.
 //!
 //! # Laws
 //! In [`laws`]: a table that says a configuration has no fault; a configuration is one that a
@@ -23,23 +27,30 @@
 //!
 //! # Not claimed
 //! That memory is there; TOML and the texts of socket addresses, whose readers are the kit's; which
-//! line is reported of a text that is no TOML: it is one of the text's, and a test holds which.
+//! line is reported of a text that is no TOML, and what was expected there: it is one of the text's, and
+//! tests hold which, and what.
 #![tactic(auto)]
 
 mod address;
 mod configuration;
+mod details;
 mod fault;
+mod known_keys;
 pub mod laws;
 mod lines;
 mod numbers;
 mod policy_keys;
 mod ports;
 mod reading;
+mod rows;
 mod sentences;
 mod serve;
+mod shown;
 mod sockets;
 
 pub use configuration::{BUILT_IN, Configuration, MAX_ROUNDS, MAX_WORKERS, Port, Serve};
+pub use details::sentence_in;
 pub use fault::{ConfigurationFault, PolicyKey, PortKey, ServeKey};
 pub use reading::{configuration_in, configuration_of, configuration_of_text};
-pub use sentences::sentence;
+pub use sentences::NO_MEMORY;
+pub use shown::{MAX_MESSAGE_SHOWN, MAX_NAME_SHOWN};

@@ -7,26 +7,34 @@ use community_core::{PolicyFault, PolicyTable};
 use std::alloc::{AllocError, Global};
 
 /// The sentence where there was no memory for a configuration.
-const NO_MEMORY: &str =
+pub const NO_MEMORY: &str =
     "there was no memory to read the configuration; whether it is right is not known";
 
-// The number of a row, counted from 1.
-fn counted(row: usize) -> usize
+/// The number of a row, counted from 1.
+pub fn counted(row: usize) -> usize
     ensures { result ≡ row_count row }
 {
     row.saturating_add(1)
 }
 
-// A row of a table, and what would be right there.
-fn row_sentence(alloc: Global, table: &str, row: usize, rule: &str) -> Result<String, AllocError>
+/// A row of a table, and what would be right there.
+///
+/// # Errors
+/// `AllocError` where there is no memory for it.
+pub fn row_sentence(
+    alloc: Global,
+    table: &str,
+    row: usize,
+    rule: &str,
+) -> Result<String, AllocError>
     ensures { IfOk result (λ text. string_bytes text ≡ row_sentence table.now row rule.now) }
 {
     let number = counted(row);
     format!(in alloc; "row {number} of {table}, counted from 1: {rule}")
 }
 
-// A table as it stands in the text.
-fn table_key(table: PolicyTable) -> &'static str
+/// A table as it stands in the text.
+pub fn table_key(table: PolicyTable) -> &'static str
     ensures { result.now ≡ table_key table }
 {
     match table {
@@ -51,8 +59,8 @@ fn key_rule(table: PolicyTable) -> &'static str
     }
 }
 
-// How long a row's texts may be.
-fn length_rule(table: PolicyTable) -> &'static str
+/// How long a row's texts may be.
+pub fn length_rule(table: PolicyTable) -> &'static str
     ensures { result.now ≡ length_rule table }
 {
     match table {
@@ -67,8 +75,8 @@ fn length_rule(table: PolicyTable) -> &'static str
     }
 }
 
-// Which keys and values a row is to have.
-fn field_rule(table: PolicyTable) -> &'static str
+/// Which keys and values a row is to have.
+pub fn field_rule(table: PolicyTable) -> &'static str
     ensures { result.now ≡ field_rule table }
 {
     match table {
@@ -85,8 +93,11 @@ fn field_rule(table: PolicyTable) -> &'static str
     }
 }
 
-// The sentence on a policy's fault.
-fn policy_sentence(alloc: Global, fault: PolicyFault) -> Result<String, AllocError>
+/// The sentence on a policy's fault by itself.
+///
+/// # Errors
+/// `AllocError` where there is no memory for it.
+pub fn policy_sentence(alloc: Global, fault: PolicyFault) -> Result<String, AllocError>
     ensures { IfOk result (λ text. string_bytes text ≡ policy_sentence fault) }
 {
     match fault {
@@ -112,8 +123,8 @@ fn policy_sentence(alloc: Global, fault: PolicyFault) -> Result<String, AllocErr
     }
 }
 
-// What the key of a port is to hold.
-fn port_rule(key: PortKey) -> &'static str
+/// What the key of a port is to hold.
+pub fn port_rule(key: PortKey) -> &'static str
     ensures { result.now ≡ port_rule key }
 {
     match key {
@@ -129,8 +140,8 @@ fn port_rule(key: PortKey) -> &'static str
     }
 }
 
-// The sentence on `serve`.
-fn serve_sentence(key: ServeKey) -> &'static str
+/// The sentence on `serve`.
+pub fn serve_sentence(key: ServeKey) -> &'static str
     ensures { result.now ≡ serve_sentence key }
 {
     match key {
@@ -144,8 +155,8 @@ fn serve_sentence(key: ServeKey) -> &'static str
     }
 }
 
-// The sentence on the keys at the top.
-fn keys_sentence(key: PolicyKey) -> &'static str
+/// The sentence on the keys at the top.
+pub fn keys_sentence(key: PolicyKey) -> &'static str
     ensures { result.now ≡ keys_sentence key }
 {
     match key {
@@ -160,8 +171,11 @@ fn keys_sentence(key: PolicyKey) -> &'static str
     }
 }
 
-// The sentence on a text that is no TOML document, by one of its lines, counted from 1.
-fn text_sentence(alloc: Global, line: usize) -> Result<String, AllocError>
+/// The sentence on a text that is no TOML document, by one of its lines, counted from 1.
+///
+/// # Errors
+/// `AllocError` where there is no memory for it.
+pub fn text_sentence(alloc: Global, line: usize) -> Result<String, AllocError>
     ensures { IfOk result (λ text. string_bytes text ≡ text_sentence line) }
 {
     format!(in alloc;
