@@ -25,7 +25,7 @@ pub file_run : {I O : Type 0} (Gives : List ℕ → Result (List ℕ) NotRead �
     (contents : O → Option (List ℕ)) (file : List ℕ) (read : Result (Vec ℕ Global) NotRead) (reader reader' : I) (writer writer' : O)
     (ended : Result (Unit {0}) Failure) → IsReadWithin file Configuration (read_view read)
     → Gives file (read_view read)
-    → RunsRead remaining contents objects (read_view read) reader reader' writer writer' ended
+    → RunsRead remaining contents objects file (read_view read) reader reader' writer writer' ended
     → RunsFile Gives objects remaining contents file reader reader' writer writer' ended
 file_run Gives objects remaining contents file read reader reader' writer writer' ended within gave ran =
     record { read = read_view read; is = read_of Gives Configuration file read within gave; ran = ran }
@@ -43,7 +43,7 @@ pub file_explained : {O : Type 0} (Gives : List ℕ → Result (List ℕ) NotRea
     (contents : O → Option (List ℕ)) (request : Request) (file : List ℕ)
     (read : Result (Vec ℕ Global) NotRead) (writer writer' : O)
     (ended : Result (Unit {0}) Failure) → IsReadWithin file Configuration (read_view read)
-    → Gives file (read_view read) → ExplainsRead contents request (read_view read) writer writer' ended
+    → Gives file (read_view read) → ExplainsRead contents request file (read_view read) writer writer' ended
     → ExplainsFile Gives contents request file writer writer' ended
 file_explained Gives contents request file read writer writer' ended within gave explains =
     record { read = read_view read; is = read_of Gives Configuration file read within gave; explains = explains }
@@ -61,6 +61,6 @@ pub file_served : (Gives : List ℕ → Result (List ℕ) NotRead → Type 0) (o
     (lasting : Lasting) (file : List ℕ) (read : Result (Vec ℕ Global) NotRead)
     (done : Result (Option Service) Failure)
     → IsReadWithin file Configuration (read_view read) → Gives file (read_view read)
-    → OpensRead objects lasting (read_view read) done → OpensFile Gives objects lasting file done
+    → OpensRead objects lasting file (read_view read) done → OpensFile Gives objects lasting file done
 file_served Gives objects lasting file read done within gave opens =
     record { read = read_view read; is = read_of Gives Configuration file read within gave; opens = opens }

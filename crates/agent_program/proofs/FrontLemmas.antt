@@ -39,10 +39,7 @@ front_of_first old new a b first = record {
   took = first.took;
 }
 
--- four texts were taken whole, if the last was
-pub line_whole : {E : Type 0} (last : Result (Unit {0}) E) (s0 s1 s2 s3 s4 : Option (List ℕ)) (a b c d : List ℕ)
-    → Appends s0 s1 a → Appends s1 s2 b → Appends s2 s3 c → OnOk last (Appends s3 s4 d) → OnOk last (Appends s0 s4 (a ++ (b ++ (c ++ d))))
-line_whole (Ok done) s0 s1 s2 s3 s4 a b c d first second third fourth =
-    Appends-trans s0 s1 s4 a (b ++ (c ++ d)) first
-    (Appends-trans s1 s2 s4 b (c ++ d) second (Appends-trans s2 s3 s4 c d third fourth))
-line_whole (Err failed) s0 s1 s2 s3 s4 a b c d first second third fourth = tt
+-- two texts were taken whole, if the last was
+pub both_whole : {E : Type 0} (last : Result (Unit {0}) E) (old mid new : Option (List ℕ)) (a b : List ℕ) → Appends old mid a → OnOk last (Appends mid new b) → OnOk last (Appends old new (a ++ b))
+both_whole (Ok done) old mid new a b first next = Appends-trans old mid new a b first next
+both_whole (Err failed) old mid new a b first next = tt

@@ -9,8 +9,7 @@ use Rattle.setphase_core.specs.Registry.{rows_of, prefixes_of, first_fault, Take
 use Rattle.setphase_core.specs.declared.world.World.{World}
 use Rattle.configuration.specs.declared.configuration.Configuration.{Configuration}
 use Rattle.configuration.specs.declared.configuration.Port.{Port}
-use Rattle.configuration.specs.declared.fault.ConfigurationFault.{ConfigurationFault}
-use Rattle.configuration.specs.Configurations.{IsConfigurationIn, IsFaultIn}
+use Rattle.configuration.specs.Configurations.{IsConfigurationIn}
 
 -- what is fixed of each port
 abbrev pub configs_of : List Port → List PortConfig
@@ -40,7 +39,3 @@ pub record IsWorldOf (octets : List ℕ) (world : World) : Type 0 where
 pub record MakeRegistry (objects : List ObjectState) : Type 0 where
   pub named : TakeAnyIndex (prefixes_of (rows_of objects))
   pub ordered : first_fault (rows_of objects) ≡ None
-
--- the octets say none: they have a first fault
-abbrev pub HasFault : List ℕ → Type 0
-HasFault octets = (fault : ConfigurationFault) × IsFaultIn octets fault

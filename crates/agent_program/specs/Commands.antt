@@ -13,8 +13,8 @@ use Rattle.agent_program.specs.Reporting.{IsReported}
 -- why there is no command by a file: there was no memory for its octets, it cannot be read, or it has too
 -- many of them
 abbrev pub policy_failure : NotRead → Failure
-policy_failure FileMemory = RunFailed
-policy_failure (Unreadable file) = CannotRead file
+policy_failure (FileMemory file) = RunFailed
+policy_failure (Unreadable file reason) = CannotRead file reason
 policy_failure (FileTooLarge file limit) = TooLarge file limit
 
 -- how the program ends behind an answer that was printed so: an answer that refuses the command is a

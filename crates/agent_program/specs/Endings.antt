@@ -1,13 +1,13 @@
 -- How the program ends: its exit status, and what it says on standard error.
-use Rattle.std.specs.Prelude.{◌≡◌, ℕ, codes, List, [], ◌++◌, Option, Result, Ok, Err}
+use Rattle.std.specs.Prelude.{◌≡◌, ℕ, codes, List, [], ◌++◌, Option, Some, None, Result, Ok, Err, string_bytes}
+use Rattle.std.specs.Borrow.{Bor}
 use Rattle.std.specs.Io.KnownBytes.{Appends}
 use Rattle.std.specs.declared.io.ErrorKind.{ErrorKind}
-use Rattle.std.specs.declared.io.ErrorKind.TheVariants.{OutOfMemory}
+use Rattle.std.specs.declared.io.ErrorKind.TheVariants as kind
 use Rattle.script_core.specs.declared.fault.RunFault.{RunFault}
 use Rattle.script_core.specs.declared.fault.RunFault.TheVariants.{Input as InputFailed, Output as OutputFailed, Memory as NoMemory, Stopped as Given}
-use Rattle.agent_script.specs.declared.session.ScriptEnd.{ScriptEnd}
-use Rattle.agent_program.specs.declared.opening.NotRun.{NotRun}
-use Rattle.agent_program.specs.declared.opening.NotRun.TheVariants.{Refused as IsRefused, Memory, NoRegistry, Stopped}
+use Rattle.configuration.specs.Sentences.{memory_sentence}
+use Rattle.udp_agent.specs.declared.setup.Unserved.TheVariants.{NoServe, NoSockets}
 use Rattle.agent_program.specs.declared.files.NotRead.{NotRead}
 use Rattle.agent_program.specs.declared.files.NotRead.TheVariants.{Memory as FileMemory, Unreadable, TooLarge as FileTooLarge}
 use Rattle.agent_program.specs.declared.files.FileLimit.{FileLimit}
@@ -18,16 +18,19 @@ use Rattle.explain.specs.declared.questions.QuestionFault.{QuestionFault}
 use Rattle.explain.specs.declared.questions.QuestionFault.TheVariants.{Memory as NoQuestionMemory, Name}
 use Rattle.agent_program.specs.declared.reporting.NotTaken.{NotTaken}
 use Rattle.agent_program.specs.declared.failure.Failure.{Failure}
-use Rattle.agent_program.specs.declared.failure.Failure.TheVariants.{NotText, NoName, CannotRead, TooLarge, Refused, Input, Output, Unanswered, NotDone, Run as RunFailed}
+use Rattle.agent_program.specs.declared.failure.Failure.TheVariants.{NotText, NoName, CannotRead, TooLarge, Refused, RefusedFor, Input, Output, Unanswered, NotDone, Run as RunFailed}
+use Rattle.agent_program.specs.declared.failure.Refusal.{Refusal}
+use Rattle.agent_program.specs.declared.failure.Refusal.TheVariants as refused
 
 -- the exit status: 2 for a word that is no text and for a configuration that cannot be read or is
 -- refused, 1 for what failed in a run
 abbrev pub failure_status : Failure → ℕ
 failure_status NotText = 2
 failure_status (NoName word) = 2
-failure_status (CannotRead file) = 2
+failure_status (CannotRead file reason) = 2
 failure_status (TooLarge file limit) = 2
 failure_status Refused = 2
+failure_status (RefusedFor file refusal) = 2
 failure_status Input = 1
 failure_status Output = 1
 failure_status Unanswered = 1
@@ -42,9 +45,10 @@ status_of (Err failure) = failure_status failure
 abbrev pub failure_words : Failure → List ℕ
 failure_words NotText = codes "a word is no text"
 failure_words (NoName word) = codes "no object identifier: "
-failure_words (CannotRead file) = codes "cannot read "
+failure_words (CannotRead file reason) = codes "cannot read "
 failure_words (TooLarge file limit) = codes "cannot read "
 failure_words Refused = codes "configuration refused"
+failure_words (RefusedFor file refusal) = codes "configuration refused"
 failure_words Input = codes "input failed"
 failure_words Output = codes "output failed"
 failure_words Unanswered = codes "no answer"
@@ -54,9 +58,10 @@ failure_words RunFailed = codes "run failed"
 abbrev pub failure_name : Failure → List ℕ
 failure_name NotText = []
 failure_name (NoName word) = word.now
-failure_name (CannotRead file) = file.now
+failure_name (CannotRead file reason) = file.now
 failure_name (TooLarge file limit) = file.now
 failure_name Refused = []
+failure_name (RefusedFor file refusal) = []
 failure_name Input = []
 failure_name Output = []
 failure_name Unanswered = []
@@ -68,23 +73,57 @@ abbrev pub limit_line : FileLimit → List ℕ
 limit_line Configuration = codes "agentd: it has more than 268435456 octets\n"
 limit_line Policy = codes "agentd: it has more than 65536 octets\n"
 
--- what ends its first line, and the line that follows for a file with too many octets
-abbrev pub failure_rest : Failure → List ℕ
-failure_rest NotText = codes "\n"
-failure_rest (NoName word) = codes "\n"
-failure_rest (CannotRead file) = codes "\n"
-failure_rest (TooLarge file limit) = codes "\n" ++ limit_line limit
-failure_rest Refused = codes "\n"
-failure_rest Input = codes "\n"
-failure_rest Output = codes "\n"
-failure_rest Unanswered = codes "\n"
-failure_rest NotDone = codes "\n"
-failure_rest RunFailed = codes "\n"
+-- why a file cannot be read, in the words of the C library for the errors of Linux
+abbrev pub reason_words : ErrorKind → List ℕ
+reason_words kind.NotFound = codes "No such file or directory"
+reason_words kind.PermissionDenied = codes "Permission denied"
+reason_words kind.NotADirectory = codes "Not a directory"
+reason_words kind.IsADirectory = codes "Is a directory"
+reason_words kind.FilesystemLoop = codes "Too many levels of symbolic links"
+reason_words kind.InvalidFilename = codes "File name too long"
+reason_words kind.InvalidInput = codes "Invalid argument"
+reason_words kind.ResourceBusy = codes "Device or resource busy"
+reason_words kind.StaleNetworkFileHandle = codes "Stale file handle"
+reason_words kind.TimedOut = codes "Connection timed out"
+reason_words other = codes "another error of the system"
 
--- its line, and for a file with too many octets a second one
+-- why the configuration of a file is refused, in the words of a check
+abbrev pub refusal_words : Refusal → List ℕ
+refusal_words (refused.Fault sentence) = string_bytes sentence
+refusal_words refused.NoSentence =
+    codes "there was no memory for the sentence on its first fault"
+refusal_words refused.Memory = memory_sentence
+refusal_words (refused.Unserved NoServe) =
+    codes "configuration ok for script, not for serve: no [serve]"
+refusal_words (refused.Unserved NoSockets) =
+    codes "configuration ok for script, not for serve: a port without listen or peer"
+
+-- the line that says of a file what the cause is
+abbrev pub cause_line : List ℕ → List ℕ → List ℕ
+cause_line file cause = codes "agentd: " ++ (file ++ (codes ": " ++ (cause ++ codes "\n")))
+
+abbrev pub first_line : Failure → List ℕ
+first_line failure =
+    codes "agentd: " ++ (failure_words failure ++ (failure_name failure ++ codes "\n"))
+
+-- The line that follows for a file: why it cannot be read, how many octets it may have, or why its
+-- configuration is refused.
+abbrev pub second_line : Failure → List ℕ
+second_line NotText = []
+second_line (NoName word) = []
+second_line (CannotRead file reason) = cause_line file.now (reason_words reason)
+second_line (TooLarge file limit) = limit_line limit
+second_line Refused = []
+second_line (RefusedFor file refusal) = cause_line file.now (refusal_words refusal)
+second_line Input = []
+second_line Output = []
+second_line Unanswered = []
+second_line NotDone = []
+second_line RunFailed = []
+
+-- its line, and behind it the second, where there is one
 abbrev pub failure_line : Failure → List ℕ
-failure_line failure =
-    codes "agentd: " ++ (failure_words failure ++ (failure_name failure ++ failure_rest failure))
+failure_line failure = first_line failure ++ second_line failure
 
 -- what is stated on standard error
 abbrev pub stated_of : {A : Type 0} → Result A Failure → List ℕ
@@ -107,8 +146,8 @@ answered_line WordsMemory = failure_line RunFailed
 
 -- words that were not had, as a failure of the program: want of memory for them is not their fault
 abbrev pub words_failure : ErrorKind → Failure
-words_failure OutOfMemory = RunFailed
-words_failure kind = NotText
+words_failure kind.OutOfMemory = RunFailed
+words_failure other = NotText
 
 -- a run that did not reach its end, as a failure of the program
 abbrev pub run_failure : RunFault → Failure
@@ -118,10 +157,10 @@ run_failure NoMemory = RunFailed
 run_failure Given = RunFailed
 
 -- a file that was not read, as a failure of the program: without memory for its octets nothing is
--- stated of them
+-- known of them
 abbrev pub read_failure : NotRead → Failure
-read_failure FileMemory = Refused
-read_failure (Unreadable file) = CannotRead file
+read_failure (FileMemory file) = RefusedFor file refused.Memory
+read_failure (Unreadable file reason) = CannotRead file reason
 read_failure (FileTooLarge file limit) = TooLarge file limit
 
 -- words that make no request, as a failure of the program
@@ -129,15 +168,10 @@ abbrev pub question_failure : QuestionFault → Failure
 question_failure NoQuestionMemory = RunFailed
 question_failure (Name word) = NoName word
 
-abbrev pub failure_of : NotRun → Failure
-failure_of IsRefused = Refused
-failure_of Memory = Refused
-failure_of NoRegistry = Refused
-failure_of (Stopped fault) = run_failure fault
-
-abbrev pub ended_by : Result ScriptEnd NotRun → Result (Unit {0}) Failure
-ended_by (Ok run) = Ok tt
-ended_by (Err why) = Err (failure_of why)
+-- the refusal of the configuration of a file, if it is of one
+abbrev pub refused_for : Option (Bor (List ℕ)) → Refusal → Failure
+refused_for (Some file) why = RefusedFor file why
+refused_for None why = Refused
 
 -- a writer took a front of this text, and nothing else
 pub record TakesFront (old new : Option (List ℕ)) (text : List ℕ) : Type 0 where

@@ -1,5 +1,5 @@
 -- What the program says of the decision on a request, by the policy of a file's configuration.
-use Rattle.std.specs.Prelude.{◌≡◌, ◌⊎◌, ℕ, List, Option, Result, Ok, Err}
+use Rattle.std.specs.Prelude.{◌≡◌, ◌⊎◌, ℕ, List, Option, Some, Result, Ok, Err}
 use Rattle.std.specs.Borrow.{Bor}
 use Rattle.message_core.specs.declared.request.Kind.{Kind}
 use Rattle.message_core.specs.declared.request.Kind.TheVariants as kind
@@ -16,7 +16,8 @@ use Rattle.agent_program.specs.declared.files.NotRead.{NotRead}
 use Rattle.agent_program.specs.declared.opening.NotRun.{NotRun}
 use Rattle.agent_program.specs.declared.failure.Failure.{Failure}
 use Rattle.agent_program.specs.declared.failure.Failure.TheVariants.{NoName, Run as RunFailed}
-use Rattle.agent_program.specs.Endings.{failure_of, read_failure}
+use Rattle.agent_program.specs.Endings.{read_failure}
+use Rattle.agent_program.specs.Refusals.{IsFailureOf}
 use Rattle.agent_program.specs.Files.{IsReadOf}
 use Rattle.agent_program.specs.Runs.{IsNotOpened}
 use Rattle.agent_program.specs.Reporting.{IsReported}
@@ -38,10 +39,11 @@ abbrev pub IsQuestionFailure : List (List ℕ) → Failure → Type 0
 IsQuestionFailure words failure =
     (failure ≡ RunFailed) ⊎ ((word : Bor (List ℕ)) × (failure ≡ NoName word) × IsFirstNoName words word.now)
 
--- octets explain nothing: there was no memory for the text, or they were not opened
-abbrev pub IsNotExplained : List ℕ → Failure → Type 0
-IsNotExplained octets failure =
-    (failure ≡ RunFailed) ⊎ ((why : NotRun) × (failure ≡ failure_of why) × IsNotOpened octets why)
+-- the octets of a file explain nothing: there was no memory for the text, or they were not opened
+abbrev pub IsNotExplained : List ℕ → List ℕ → Failure → Type 0
+IsNotExplained file octets failure =
+    (failure ≡ RunFailed)
+    ⊎ ((why : NotRun) × IsFailureOf (Some file) octets why failure × IsNotOpened octets why)
 
 -- A writer that may report which octets it took.
 module _ {O : Type 0} (contents : O → Option (List ℕ)) where
@@ -53,19 +55,19 @@ module _ {O : Type 0} (contents : O → Option (List ℕ)) where
     pub stated : IsConfigurationIn octets configuration
     pub reported : IsReported contents (explanation configuration.policy request) writer writer' ended
 
-  -- What an explanation by octets amounts to; where there is none, nothing was written.
-  abbrev pub ExplainsOctets : Request → List ℕ → O → O → Result (Unit {0}) Failure → Type 0
-  ExplainsOctets request octets writer writer' (Ok done) =
+  -- What an explanation by the octets of a file amounts to; where there is none, nothing was written.
+  abbrev pub ExplainsOctets : Request → List ℕ → List ℕ → O → O → Result (Unit {0}) Failure → Type 0
+  ExplainsOctets request file octets writer writer' (Ok done) =
       IsExplained octets request writer writer' (Ok done)
-  ExplainsOctets request octets writer writer' (Err failure) =
-      IsExplained octets request writer writer' (Err failure) ⊎ (IsNotExplained octets failure × (writer' ≡ writer))
+  ExplainsOctets request file octets writer writer' (Err failure) =
+      IsExplained octets request writer writer' (Err failure) ⊎ (IsNotExplained file octets failure × (writer' ≡ writer))
 
   -- The same by what was read of a file.
-  abbrev pub ExplainsRead : Request → Result (List ℕ) NotRead → O → O → Result (Unit {0}) Failure
-      → Type 0
-  ExplainsRead request (Ok octets) writer writer' ended =
-      ExplainsOctets request octets writer writer' ended
-  ExplainsRead request (Err why) writer writer' ended =
+  abbrev pub ExplainsRead : Request → List ℕ → Result (List ℕ) NotRead → O → O
+      → Result (Unit {0}) Failure → Type 0
+  ExplainsRead request file (Ok octets) writer writer' ended =
+      ExplainsOctets request file octets writer writer' ended
+  ExplainsRead request file (Err why) writer writer' ended =
       (ended ≡ Err (read_failure why)) × (writer' ≡ writer)
 
 -- Beside it a reader of files, by what a read of the file of a name may give.
@@ -76,7 +78,7 @@ module _ {O : Type 0} (Gives : List ℕ → Result (List ℕ) NotRead → Type 0
       (ended : Result (Unit {0}) Failure) : Type 0 where
     pub read : Result (List ℕ) NotRead
     pub is : IsReadOf Gives limit.Configuration file read
-    pub explains : ExplainsRead contents request read writer writer' ended
+    pub explains : ExplainsRead contents request file read writer writer' ended
 
   -- the words make this request, and it was explained by a file
   pub record ExplainsAsked (inquiry : Inquiry) (file : List ℕ) (writer writer' : O)

@@ -20,8 +20,8 @@ within most octets = if nat_le (length octets) most then Some octets else None
 -- what names a limit this one.
 abbrev pub IsReadWithin : List ℕ → FileLimit → Result (List ℕ) NotRead → Type 0
 IsReadWithin file limit (Ok octets) = length octets ≤ most_octets limit
-IsReadWithin file limit (Err Memory) = Unit {0}
-IsReadWithin file limit (Err (Unreadable name)) = name.now ≡ file
+IsReadWithin file limit (Err (Memory name)) = name.now ≡ file
+IsReadWithin file limit (Err (Unreadable name reason)) = name.now ≡ file
 IsReadWithin file limit (Err (TooLarge name past)) = (name.now ≡ file) × (past ≡ limit)
 
 -- Octets within this limit were read, or none of this file; and that is what its reader gave.

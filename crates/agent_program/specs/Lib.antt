@@ -7,3 +7,4 @@ pub mod Explanations
 pub mod Commands
 pub mod Services
 pub mod Programs
+pub mod Refusals

@@ -1,5 +1,5 @@
 -- What the program does for what is asked of it.
-use Rattle.std.specs.Prelude.{◌≡◌, ℕ, List, Option, None, Result, Ok, Err}
+use Rattle.std.specs.Prelude.{◌≡◌, ℕ, List, Option, Some, None, Result, Ok, Err}
 use Rattle.configuration.specs.declared.configuration.TheConstants.{BUILT_IN}
 use Rattle.setphase_core.specs.Objects.{ObjectState}
 use Rattle.agent_script.specs.declared.session.ScriptEnd.{ScriptEnd}
@@ -14,7 +14,8 @@ use Rattle.agent_words.specs.declared.asked.Lasting.{Lasting}
 use Rattle.agent_words.specs.Asking.{Inquiry, question_view}
 use Rattle.agent_words.specs.Orders.{Command, order_view}
 use Rattle.agent_program.specs.Files.{IsReadOf}
-use Rattle.agent_program.specs.Endings.{status_of, stated_of, ended_by, read_failure, IsLineTaken}
+use Rattle.agent_program.specs.Endings.{status_of, stated_of, read_failure, IsLineTaken}
+use Rattle.agent_program.specs.Refusals.{EndsBy}
 use Rattle.agent_program.specs.Runs.{IsUntouched, IsRunBy}
 use Rattle.agent_program.specs.Services.{Service, OpensFile}
 use Rattle.agent_program.specs.Reporting.{IsCheckOf}
@@ -39,12 +40,13 @@ pub record HasDone (Did : Result (Unit {0}) Failure → Type 0) (done : Result (
   pub is : done ≡ nothing_left ended
 
 module _ {I O : Type 0} (remaining : I → Option (List ℕ)) (contents : O → Option (List ℕ)) where
-  -- a run by these octets, over the objects that were handed in, ended the program so
-  pub record RunsBy (objects : List ObjectState) (octets : List ℕ) (reader reader' : I)
+  -- a run by these octets of this file, if of one, over the objects that were handed in, ended the
+  -- program so
+  pub record RunsBy (objects : List ObjectState) (file : Option (List ℕ)) (octets : List ℕ) (reader reader' : I)
       (writer writer' : O) (ended : Result (Unit {0}) Failure) : Type 0 where
     pub result : Result ScriptEnd NotRun
     pub run : IsRunBy remaining contents objects octets reader reader' writer writer' result
-    pub is : ended ≡ ended_by result
+    pub is : EndsBy file octets result ended
 
   -- the program failed so before it read or wrote anything
   pub record FailsFirst (failure : Failure) (reader reader' : I) (writer writer' : O) (ended : Result (Unit {0}) Failure) : Type 0 where
@@ -52,11 +54,11 @@ module _ {I O : Type 0} (remaining : I → Option (List ℕ)) (contents : O → 
     pub untouched : IsUntouched remaining contents reader reader' writer writer'
 
   -- A run by what was read of a file: by its octets, and by nothing else where they were not had.
-  abbrev pub RunsRead : List ObjectState → Result (List ℕ) NotRead → I → I → O → O
+  abbrev pub RunsRead : List ObjectState → List ℕ → Result (List ℕ) NotRead → I → I → O → O
       → Result (Unit {0}) Failure → Type 0
-  RunsRead objects (Ok octets) reader reader' writer writer' ended =
-      RunsBy objects octets reader reader' writer writer' ended
-  RunsRead objects (Err why) reader reader' writer writer' ended =
+  RunsRead objects file (Ok octets) reader reader' writer writer' ended =
+      RunsBy objects (Some file) octets reader reader' writer writer' ended
+  RunsRead objects file (Err why) reader reader' writer writer' ended =
       FailsFirst (read_failure why) reader reader' writer writer' ended
 
 -- Beside these a reader of files, by what a read of the file of a name may give, and the objects
@@ -69,7 +71,7 @@ module _ {I O : Type 0} (Gives : List ℕ → Result (List ℕ) NotRead → Type
       (ended : Result (Unit {0}) Failure) : Type 0 where
     pub read : Result (List ℕ) NotRead
     pub is : IsReadOf Gives limit.Configuration file read
-    pub ran : RunsRead remaining contents objects read reader reader' writer writer' ended
+    pub ran : RunsRead remaining contents objects file read reader reader' writer writer' ended
 
   -- the program reported whether a file is a configuration, and read nothing else
   pub record ChecksFile (file : List ℕ) (reader reader' : I) (writer writer' : O)
@@ -103,7 +105,7 @@ module _ {I O : Type 0} (Gives : List ℕ → Result (List ℕ) NotRead → Type
   -- What the program did for what is asked.
   abbrev pub Does : Asked → I → I → O → O → Result (Option Service) Failure → Type 0
   Does BuiltIn reader reader' writer writer' done =
-      HasDone (RunsBy remaining contents objects BUILT_IN.now reader reader' writer writer') done
+      HasDone (RunsBy remaining contents objects None BUILT_IN.now reader reader' writer writer') done
   Does (Script file) reader reader' writer writer' done = HasDone
       (RunsFile Gives objects remaining contents file.now reader reader' writer writer') done
   Does (Check file) reader reader' writer writer' done = HasDone
@@ -117,8 +119,8 @@ module _ {I O : Type 0} (Gives : List ℕ → Result (List ℕ) NotRead → Type
       HasDone (Commands path.now (order_view order) reader reader' writer writer') done
 
   -- The program did what is asked, and this is left to be served, if anything: its status is
-  -- that of how it ended, and on standard error stands the line that says so, whole or a front of it
-  -- behind which a write failed.
+  -- that of how it ended, and on standard error stands the line that says so, and the second where
+  -- there is one, whole or a front of them behind which a write failed.
   pub record IsProgramRun (asked : Asked) (reader reader' : I) (writer writer' : O)
       (errors errors' : Option (List ℕ)) (finished : Ended) (left : Option Service) : Type 0 where
     pub done : Result (Option Service) Failure

@@ -1,12 +1,12 @@
 -- What is written of a text, and what a check reports of octets.
-use Rattle.std.specs.Prelude.{◌≡◌, ◌≢◌, ◌⊎◌, ℕ, codes, List, ◌++◌, Option, Some, None, Result, Ok, Err}
+use Rattle.std.specs.Prelude.{◌≡◌, ◌≢◌, ◌⊎◌, ℕ, codes, List, [], ◌++◌, Option, Some, None, Result, Ok, Err}
 use Rattle.std.specs.Io.KnownBytes.{Appends}
 use Rattle.policy_text.specs.Texts.{HasContent}
 use Rattle.configuration.specs.declared.configuration.Configuration.{Configuration}
 use Rattle.configuration.specs.declared.fault.ConfigurationFault.{ConfigurationFault}
 use Rattle.configuration.specs.declared.fault.ConfigurationFault.TheVariants.{Memory}
 use Rattle.configuration.specs.Configurations.{IsConfigurationIn, IsFaultIn}
-use Rattle.configuration.specs.Sentences.{sentence}
+use Rattle.configuration.specs.Details.{IsSentenceIn}
 use Rattle.udp_agent.specs.Setups.{IsUnserved}
 use Rattle.udp_agent.specs.declared.setup.Unserved.{Unserved}
 use Rattle.udp_agent.specs.declared.setup.Unserved.TheVariants.{NoServe, NoSockets}
@@ -14,7 +14,7 @@ use Rattle.agent_program.specs.declared.files.FileLimit.TheVariants as limit
 use Rattle.agent_program.specs.declared.files.NotRead.{NotRead}
 use Rattle.agent_program.specs.declared.files.NotRead.TheVariants.{Memory as FileMemory, Unreadable, TooLarge as FileTooLarge}
 use Rattle.agent_program.specs.declared.failure.Failure.{Failure}
-use Rattle.agent_program.specs.declared.failure.Failure.TheVariants.{NotText, NoName, CannotRead, TooLarge, Refused, Input, Output, Unanswered, NotDone, Run as RunFailed}
+use Rattle.agent_program.specs.declared.failure.Failure.TheVariants.{NotText, NoName, CannotRead, TooLarge, Refused, RefusedFor, Input, Output, Unanswered, NotDone, Run as RunFailed}
 use Rattle.agent_program.specs.Endings.{TakesFront}
 use Rattle.agent_program.specs.Files.{IsReadOf}
 
@@ -25,9 +25,18 @@ ok_text (Some NoServe) = codes "configuration ok for script, not for serve: no [
 ok_text (Some NoSockets) =
     codes "configuration ok for script, not for serve: a port without listen or peer\n"
 
--- what is stated of a fault
-abbrev pub fault_text : ConfigurationFault → List ℕ
-fault_text fault = sentence fault ++ codes "\n"
+-- this is stated of a fault of octets: its sentence, as a line
+pub record IsFaultText (octets : List ℕ) (fault : ConfigurationFault) (text : List ℕ) : Type 0 where
+  pub sentence : List ℕ
+  pub on_fault : IsSentenceIn octets fault sentence
+  pub is : text ≡ sentence ++ codes "\n"
+
+-- a text on a fault of octets was written, whole or a front of it
+pub record IsFaultWritten (octets : List ℕ) (fault : ConfigurationFault) (Wrote : List ℕ → Type 0)
+    : Type 0 where
+  pub text : List ℕ
+  pub on_fault : IsFaultText octets fault text
+  pub wrote : Wrote text
 
 -- this is the first fault of the octets, unless it is want of memory, which says of them only that
 -- they are a text that is not blank
@@ -41,9 +50,10 @@ module _ {O : Type 0} (contents : O → Option (List ℕ)) where
   abbrev pub IsCutOff : List ℕ → O → O → Failure → Type 0
   IsCutOff text writer writer' NotText = ⊥
   IsCutOff text writer writer' (NoName word) = ⊥
-  IsCutOff text writer writer' (CannotRead file) = ⊥
+  IsCutOff text writer writer' (CannotRead file reason) = ⊥
   IsCutOff text writer writer' (TooLarge file limit) = ⊥
   IsCutOff text writer writer' Refused = ⊥
+  IsCutOff text writer writer' (RefusedFor file refusal) = ⊥
   IsCutOff text writer writer' Input = ⊥
   IsCutOff text writer writer' Output = TakesFront (contents writer) (contents writer') text
   IsCutOff text writer writer' Unanswered = ⊥
@@ -55,27 +65,28 @@ module _ {O : Type 0} (contents : O → Option (List ℕ)) where
   IsReported text writer writer' (Ok done) = Appends (contents writer) (contents writer') text
   IsReported text writer writer' (Err failure) = IsCutOff text writer writer' failure
 
-  -- A fault was reported, and the configuration is refused; or the output failed before its end; or
-  -- there was no memory for its sentence, and nothing was written.
-  abbrev pub IsFaultReported : ConfigurationFault → O → O → Failure → Type 0
-  IsFaultReported fault writer writer' NotText = ⊥
-  IsFaultReported fault writer writer' (NoName word) = ⊥
-  IsFaultReported fault writer writer' (CannotRead file) = ⊥
-  IsFaultReported fault writer writer' (TooLarge file limit) = ⊥
-  IsFaultReported fault writer writer' Refused =
-      Appends (contents writer) (contents writer') (fault_text fault)
-  IsFaultReported fault writer writer' Input = ⊥
-  IsFaultReported fault writer writer' Output =
-      TakesFront (contents writer) (contents writer') (fault_text fault)
-  IsFaultReported fault writer writer' Unanswered = ⊥
-  IsFaultReported fault writer writer' NotDone = ⊥
-  IsFaultReported fault writer writer' RunFailed = writer' ≡ writer
+  -- A fault of octets was reported, and the configuration is refused; or the output failed before its
+  -- end; or there was no memory for its sentence, and nothing was written.
+  abbrev pub IsFaultReported : List ℕ → ConfigurationFault → O → O → Failure → Type 0
+  IsFaultReported octets fault writer writer' NotText = ⊥
+  IsFaultReported octets fault writer writer' (NoName word) = ⊥
+  IsFaultReported octets fault writer writer' (CannotRead file reason) = ⊥
+  IsFaultReported octets fault writer writer' (TooLarge file limit) = ⊥
+  IsFaultReported octets fault writer writer' Refused =
+      IsFaultWritten octets fault (Appends (contents writer) (contents writer'))
+  IsFaultReported octets fault writer writer' (RefusedFor file refusal) = ⊥
+  IsFaultReported octets fault writer writer' Input = ⊥
+  IsFaultReported octets fault writer writer' Output =
+      IsFaultWritten octets fault (TakesFront (contents writer) (contents writer'))
+  IsFaultReported octets fault writer writer' Unanswered = ⊥
+  IsFaultReported octets fault writer writer' NotDone = ⊥
+  IsFaultReported octets fault writer writer' RunFailed = writer' ≡ writer
 
   -- the octets are no configuration, and that is reported
   pub record IsRefusalReported (octets : List ℕ) (writer writer' : O) (failure : Failure) : Type 0 where
     pub fault : ConfigurationFault
     pub found : IsFaultFound octets fault
-    pub reported : IsFaultReported fault writer writer' failure
+    pub reported : IsFaultReported octets fault writer writer' failure
 
   -- the octets are a configuration, and that is reported, and whether it can be served, whole or until
   -- the output failed
@@ -96,16 +107,16 @@ module _ {O : Type 0} (contents : O → Option (List ℕ)) where
   pub record IsWantReported (writer writer' : O) (ended : Result (Unit {0}) Failure) : Type 0 where
     pub failure : Failure
     pub failed : ended ≡ Err failure
-    pub reported : IsFaultReported Memory writer writer' failure
+    pub reported : IsFaultReported [] Memory writer writer' failure
 
   -- What a check of what was read of a file amounts to: want of memory for its octets is reported as that
   -- for the configuration; of a file that cannot be read, or has too many
   -- octets, nothing is reported.
   abbrev pub IsFileChecked : Result (List ℕ) NotRead → O → O → Result (Unit {0}) Failure → Type 0
   IsFileChecked (Ok octets) writer writer' ended = IsChecked octets writer writer' ended
-  IsFileChecked (Err FileMemory) writer writer' ended = IsWantReported writer writer' ended
-  IsFileChecked (Err (Unreadable file)) writer writer' ended =
-      (ended ≡ Err (CannotRead file)) × (writer' ≡ writer)
+  IsFileChecked (Err (FileMemory file)) writer writer' ended = IsWantReported writer writer' ended
+  IsFileChecked (Err (Unreadable file reason)) writer writer' ended =
+      (ended ≡ Err (CannotRead file reason)) × (writer' ≡ writer)
   IsFileChecked (Err (FileTooLarge file limit)) writer writer' ended =
       (ended ≡ Err (TooLarge file limit)) × (writer' ≡ writer)
 

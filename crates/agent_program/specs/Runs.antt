@@ -8,13 +8,15 @@ use Rattle.setphase_core.specs.declared.world.World.{World}
 use Rattle.agent_script.specs.State.{Agent, opening_agent}
 use Rattle.agent_script.specs.declared.session.ScriptEnd.{ScriptEnd}
 use Rattle.agent_program.specs.declared.opening.NotRun.{NotRun}
-use Rattle.agent_program.specs.declared.opening.NotRun.TheVariants.{Refused, Memory, NoRegistry, Stopped}
-use Rattle.agent_program.specs.Agents.{IsWorldOf, MakeRegistry, HasFault}
+use Rattle.agent_program.specs.declared.opening.NotRun.TheVariants.{Refused, Unserved, Memory, NoRegistry, Stopped}
+use Rattle.configuration.specs.Configurations.{IsFaultIn}
+use Rattle.agent_program.specs.Agents.{IsWorldOf, MakeRegistry}
 
--- Octets were not opened for this reason: what is refused says no configuration, and only a text
--- that is not blank takes memory.
+-- Octets were not opened for this reason: what is refused has this first fault, and only a text that
+-- is not blank takes memory.
 abbrev pub IsNotOpened : List ℕ → NotRun → Type 0
-IsNotOpened octets Refused = HasFault octets
+IsNotOpened octets (Refused fault) = IsFaultIn octets fault
+IsNotOpened octets (Unserved why) = ⊥
 IsNotOpened octets Memory = HasContent octets
 IsNotOpened octets NoRegistry = ⊥
 IsNotOpened octets (Stopped fault) = ⊥
@@ -32,7 +34,8 @@ module _ {I O : Type 0} (remaining : I → Option (List ℕ)) (contents : O → 
       IsScriptRun remaining contents agent reader reader' writer writer' (Ok run)
   IsRunOver agent reader reader' writer writer' (Err (Stopped fault)) =
       IsScriptRun remaining contents agent reader reader' writer writer' (Err fault)
-  IsRunOver agent reader reader' writer writer' (Err Refused) = ⊥
+  IsRunOver agent reader reader' writer writer' (Err (Refused fault)) = ⊥
+  IsRunOver agent reader reader' writer writer' (Err (Unserved why)) = ⊥
   IsRunOver agent reader reader' writer writer' (Err Memory) = ⊥
   IsRunOver agent reader reader' writer writer' (Err NoRegistry) = ⊥
 
@@ -45,7 +48,7 @@ module _ {I O : Type 0} (remaining : I → Option (List ℕ)) (contents : O → 
     pub makes : MakeRegistry objects
     pub run : IsScriptRun remaining contents (opening_agent objects world) reader reader' writer writer' went
 
-  -- What came of objects and octets: a run; a refusal of what is no configuration, or of objects
+  -- What came of objects and octets: a run; a refusal of what has this first fault, or of objects
   -- that make no registry; or, of a text that is not blank, want of memory before anything was
   -- read.
   abbrev pub IsRunBy : List ObjectState → List ℕ → I → I → O → O → Result ScriptEnd NotRun → Type 0
@@ -53,8 +56,9 @@ module _ {I O : Type 0} (remaining : I → Option (List ℕ)) (contents : O → 
       HasRun objects octets reader reader' writer writer' (Ok run)
   IsRunBy objects octets reader reader' writer writer' (Err (Stopped fault)) =
       HasRun objects octets reader reader' writer writer' (Err fault)
-  IsRunBy objects octets reader reader' writer writer' (Err Refused) =
-      HasFault octets × IsUntouched reader reader' writer writer'
+  IsRunBy objects octets reader reader' writer writer' (Err (Refused fault)) =
+      IsFaultIn octets fault × IsUntouched reader reader' writer writer'
+  IsRunBy objects octets reader reader' writer writer' (Err (Unserved why)) = ⊥
   IsRunBy objects octets reader reader' writer writer' (Err Memory) =
       HasContent octets × IsUntouched reader reader' writer writer'
   IsRunBy objects octets reader reader' writer writer' (Err NoRegistry) =

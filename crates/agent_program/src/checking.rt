@@ -1,11 +1,11 @@
 //! Reports whether octets are a configuration, and whether it can be served.
 ghost use Rattle.std.specs.Prelude.{◌≡◌, IfOk, string_bytes};
-ghost use Rattle.agent_program.specs.Reporting.{ok_text, fault_text, IsFaultReported, IsChecked, IsFileChecked};
+ghost use Rattle.agent_program.specs.Reporting.{ok_text, IsFaultText, IsFaultReported, IsChecked, IsFileChecked};
 ghost use Rattle.agent_program.specs.Files.{read_view};
 
 use crate::failure::{Failure, write_out};
 use crate::files::NotRead;
-use configuration::{ConfigurationFault, configuration_in, sentence};
+use configuration::{ConfigurationFault, configuration_in, sentence_in};
 use std::alloc::{AllocError, Global};
 use std::io::Write;
 use udp_agent::{Unserved, setup_of};
@@ -29,24 +29,25 @@ fn ok_text(why: Option<Unserved>) -> &'static [u8]
     }
 }
 
-// What is stated of a fault, as a line.
-fn fault_text(alloc: Global, fault: ConfigurationFault) -> Result<String, AllocError>
-    ensures { IfOk result (λ text. string_bytes text ≡ fault_text fault) }
+// What is stated of a fault of octets, as a line.
+fn fault_text(alloc: Global, octets: &[u8], fault: ConfigurationFault) -> Result<String, AllocError>
+    ensures { IfOk result (λ text. IsFaultText octets.now fault (string_bytes text)) }
 {
-    let mut text = sentence(alloc, fault)?;
+    let mut text = sentence_in(alloc, octets, fault)?;
     text.push_str("\n")?;
     Ok(text)
 }
 
-// Reports a fault, and gives the failure that comes of it.
+// Reports a fault of octets, and gives the failure that comes of it.
 fn report_fault<'a, O: Write>(
     alloc: Global,
+    octets: &[u8],
     fault: ConfigurationFault,
     writer: &mut O,
 ) -> Failure<'a>
-    ensures { IsFaultReported O.contents fault writer.old writer.new result }
+    ensures { IsFaultReported O.contents octets.now fault writer.old writer.new result }
 {
-    match fault_text(alloc, fault) {
+    match fault_text(alloc, octets, fault) {
         Ok(text) => match write_out(text.as_bytes(), writer) {
             Ok(()) => Failure::Refused,
             Err(failure) => failure,
@@ -78,7 +79,7 @@ pub fn check_octets<'a, O: Write>(
             );
             write_out(ok_text(setup.err()), writer)
         }
-        Err(fault) => Err(report_fault(alloc, fault, writer)),
+        Err(fault) => Err(report_fault(alloc, octets, fault, writer)),
     }
 }
 
@@ -97,8 +98,10 @@ pub fn check_read<'a, O: Write>(
 {
     match read {
         Ok(octets) => check_octets(alloc, &octets, writer),
-        Err(NotRead::Memory) => Err(report_fault(alloc, ConfigurationFault::Memory, writer)),
-        Err(NotRead::Unreadable(file)) => Err(Failure::CannotRead(file)),
+        Err(NotRead::Memory(_)) => {
+            Err(report_fault(alloc, &[], ConfigurationFault::Memory, writer))
+        }
+        Err(NotRead::Unreadable(file, reason)) => Err(Failure::CannotRead(file, reason)),
         Err(NotRead::TooLarge(file, limit)) => Err(Failure::TooLarge(file, limit)),
     }
 }

@@ -95,8 +95,8 @@ fn policy_failure(why: NotRead<'_>) -> Failure<'_>
     ensures { result ≡ policy_failure why.entry }
 {
     match why {
-        NotRead::Memory => Failure::Run,
-        NotRead::Unreadable(file) => Failure::CannotRead(file),
+        NotRead::Memory(_) => Failure::Run,
+        NotRead::Unreadable(file, reason) => Failure::CannotRead(file, reason),
         NotRead::TooLarge(file, limit) => Failure::TooLarge(file, limit),
     }
 }

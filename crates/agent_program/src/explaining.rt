@@ -25,18 +25,20 @@ fn kind_by(operation: Operation) -> Kind
     }
 }
 
-// Says what the policy of the configuration that octets say decides on a request.
+// Says what the policy of the configuration that the octets of a file say decides on a request.
 fn explain_octets<'a, O: Write>(
     alloc: Global,
     request: &Request,
+    file: &'a str,
     octets: &[u8],
     writer: &mut O,
 ) -> Result<(), Failure<'a>>
-    ensures { ExplainsOctets O.contents request.now octets.now writer.old writer.new result }
+    ensures { ExplainsOctets O.contents request.now file.now octets.now writer.old writer.new
+        result }
 {
     let configuration = match read_configuration(alloc, octets) {
         Ok(configuration) => configuration,
-        Err(why) => return Err(failure_of(why)),
+        Err(why) => return Err(failure_of(alloc, Some(file), octets, why)),
     };
     match explained(alloc, &configuration.policy, request) {
         Ok(text) => write_out(&text, writer),
@@ -48,14 +50,15 @@ fn explain_octets<'a, O: Write>(
 fn explain_read<'a, O: Write>(
     alloc: Global,
     request: &Request,
+    file: &'a str,
     read: Result<Vec<u8>, NotRead<'a>>,
     writer: &mut O,
 ) -> Result<(), Failure<'a>>
-    ensures { ExplainsRead O.contents request.now (read_view read.entry) writer.old writer.new
-        result }
+    ensures { ExplainsRead O.contents request.now file.now (read_view read.entry) writer.old
+        writer.new result }
 {
     match read {
-        Ok(octets) => explain_octets(alloc, request, &octets, writer),
+        Ok(octets) => explain_octets(alloc, request, file, &octets, writer),
         Err(why) => Err(read_failure(why)),
     }
 }
@@ -73,7 +76,7 @@ fn explain_by<'a, F: ReadFile, O: Write>(
         writer.new result }
 {
     let read = files.read_file(file, FileLimit::Configuration);
-    explain_read(alloc, request, read, writer)
+    explain_read(alloc, request, file, read, writer)
 }
 
 /// Says what the policy of a file's configuration decides on the request that words ask about. The
@@ -81,7 +84,7 @@ fn explain_by<'a, F: ReadFile, O: Write>(
 ///
 /// # Errors
 /// `NoName` with the first word that is no object identifier; `CannotRead` where the file cannot be
-/// read; `Refused` where it says no configuration, or there was no memory for that; `Run` where
+/// read; `RefusedFor` where it says no configuration, or there was no memory for that; `Run` where
 /// there was none for the request or the text: nothing is written then. `Output` where a write fails.
 pub fn explain_file<'a, F: ReadFile, O: Write>(
     alloc: Global,

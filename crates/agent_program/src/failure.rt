@@ -1,17 +1,21 @@
 //! Why the program ends with another status than 0.
-ghost use Rattle.std.specs.Prelude.{◌≡◌, ◌++◌, codes, OnOk};
+ghost use Rattle.std.specs.Prelude.{◌≡◌, OnOk, option_map};
 ghost use Rattle.std.specs.Io.KnownBytes.{Appends};
 ghost use Rattle.std.specs.IoError.{error_kind};
 ghost use Rattle.agent_program.specs.Reporting.{IsReported};
-ghost use Rattle.agent_program.specs.Endings.{failure_status, failure_words, failure_name, failure_rest, limit_line, failure_line, failure_of, words_failure, run_failure, read_failure, question_failure, answered_status, answered_line, TakesFront, IsLineTaken};
+ghost use Rattle.agent_program.specs.Endings.{failure_status, failure_words, failure_name, reason_words, refusal_words, limit_line, cause_line, first_line, second_line, failure_line, words_failure, run_failure, read_failure, question_failure, answered_status, answered_line, TakesFront, IsLineTaken};
+ghost use Rattle.agent_program.specs.Refusals.{IsRefusalOf, IsFailureOf};
 
 use crate::files::{FileLimit, NotRead};
 use crate::opening::NotRun;
 use crate::reporting::{NotTaken, write_front};
 use agent_words::Answered;
+use configuration::{ConfigurationFault, NO_MEMORY, sentence_in};
 use explain::QuestionFault;
 use script_core::RunFault;
+use std::alloc::Global;
 use std::io::{self, ErrorKind, Write};
+use udp_agent::Unserved;
 
 /// The status for words that are no command, and for a configuration that cannot be read or is
 /// refused.
@@ -20,6 +24,19 @@ pub const USAGE: u8 = 2;
 /// The status for input, output or a run that failed.
 pub const FAILED: u8 = 1;
 
+/// Why the configuration of a file is refused.
+#[derive(Debug, Drop)]
+pub enum Refusal {
+    /// For its first fault, which has this sentence.
+    Fault(String),
+    /// For its first fault, for whose sentence there was no memory.
+    NoSentence,
+    /// There was no memory to read it.
+    Memory,
+    /// It cannot be served.
+    Unserved(Unserved),
+}
+
 /// Why the program ends with another status than 0.
 #[derive(Debug, Drop)]
 pub enum Failure<'a> {
@@ -27,13 +44,16 @@ pub enum Failure<'a> {
     NotText,
     /// A word that is to be a name is no object identifier.
     NoName(&'a str),
-    /// A file cannot be read.
-    CannotRead(&'a str),
+    /// A file cannot be read, for a reason of this kind that the system gives.
+    CannotRead(&'a str, ErrorKind),
     /// A file has more octets than this limit, and is not read.
     TooLarge(&'a str, FileLimit),
-    /// The configuration is none or does not say how to serve where that is asked, there is no memory
-    /// for it or for the objects, or these make no registry.
+    /// There is no memory for the objects or for a configuration of no file, or the objects make no
+    /// registry; or a check stated why.
     Refused,
+    /// The configuration of a file is none, or does not say how to serve where that is asked, or there is
+    /// no memory for it.
+    RefusedFor(&'a str, Refusal),
     /// The input could not be read to its end.
     Input,
     /// The output could not be written.
@@ -70,13 +90,42 @@ fn run_failure<'a>(fault: RunFault) -> Failure<'a>
     }
 }
 
-/// Why the octets of a configuration were not run to the end of a script, as a failure of the
-/// program.
-pub fn failure_of<'a>(why: NotRun) -> Failure<'a>
-    ensures { result ≡ failure_of why }
+// Why octets are refused that have this first fault: by its sentence, where there is memory for it.
+fn fault_refusal(alloc: Global, octets: &[u8], fault: ConfigurationFault) -> Refusal
+    ensures { IsRefusalOf octets.now fault result }
+{
+    match sentence_in(alloc, octets, fault) {
+        Ok(sentence) => Refusal::Fault(sentence),
+        Err(_) => Refusal::NoSentence,
+    }
+}
+
+// The refusal of the configuration of a file, if it is of one.
+fn refused_for(file: Option<&str>, refusal: Refusal) -> Failure<'_>
+    ensures { result ≡ refused_for file.entry refusal }
+{
+    match file {
+        Some(file) => Failure::RefusedFor(file, refusal),
+        None => Failure::Refused,
+    }
+}
+
+/// Why the octets of a configuration, which are those of this file, if of one, were not run to the end of
+/// a script, as a failure of the program. Where they have a fault, it has the sentence on that, if there
+/// is memory for it.
+pub fn failure_of<'a>(
+    alloc: Global,
+    file: Option<&'a str>,
+    octets: &[u8],
+    why: NotRun,
+) -> Failure<'a>
+    ensures { IsFailureOf (option_map (λ name. name.now) file.entry) octets.now why result }
 {
     match why {
-        NotRun::Refused | NotRun::Memory | NotRun::NoRegistry => Failure::Refused,
+        NotRun::Refused(fault) => refused_for(file, fault_refusal(alloc, octets, fault)),
+        NotRun::Unserved(why) => refused_for(file, Refusal::Unserved(why)),
+        NotRun::Memory => refused_for(file, Refusal::Memory),
+        NotRun::NoRegistry => Failure::Refused,
         NotRun::Stopped(fault) => run_failure(fault),
     }
 }
@@ -96,8 +145,8 @@ pub fn read_failure(why: NotRead<'_>) -> Failure<'_>
     ensures { result ≡ read_failure why.entry }
 {
     match why {
-        NotRead::Memory => Failure::Refused,
-        NotRead::Unreadable(file) => Failure::CannotRead(file),
+        NotRead::Memory(file) => Failure::RefusedFor(file, Refusal::Memory),
+        NotRead::Unreadable(file, reason) => Failure::CannotRead(file, reason),
         NotRead::TooLarge(file, limit) => Failure::TooLarge(file, limit),
     }
 }
@@ -110,9 +159,10 @@ impl Failure<'_> {
         match self {
             Failure::NotText
             | Failure::NoName(_)
-            | Failure::CannotRead(_)
+            | Failure::CannotRead(_, _)
             | Failure::TooLarge(_, _)
-            | Failure::Refused => USAGE,
+            | Failure::Refused
+            | Failure::RefusedFor(_, _) => USAGE,
             Failure::Input
             | Failure::Output
             | Failure::Unanswered
@@ -128,8 +178,8 @@ impl Failure<'_> {
         match self {
             Failure::NotText => b"a word is no text",
             Failure::NoName(_) => b"no object identifier: ",
-            Failure::CannotRead(_) | Failure::TooLarge(_, _) => b"cannot read ",
-            Failure::Refused => b"configuration refused",
+            Failure::CannotRead(_, _) | Failure::TooLarge(_, _) => b"cannot read ",
+            Failure::Refused | Failure::RefusedFor(_, _) => b"configuration refused",
             Failure::Input => b"input failed",
             Failure::Output => b"output failed",
             Failure::Unanswered => b"no answer",
@@ -144,9 +194,10 @@ impl Failure<'_> {
     {
         match self {
             Failure::NoName(word) => word.as_bytes(),
-            Failure::CannotRead(file) | Failure::TooLarge(file, _) => file.as_bytes(),
+            Failure::CannotRead(file, _) | Failure::TooLarge(file, _) => file.as_bytes(),
             Failure::NotText
             | Failure::Refused
+            | Failure::RefusedFor(_, _)
             | Failure::Input
             | Failure::Output
             | Failure::Unanswered
@@ -154,33 +205,106 @@ impl Failure<'_> {
             | Failure::Run => b"",
         }
     }
+}
 
-    // What ends its first line, and the line behind it, where there is one.
-    fn rest(&self) -> &'static [u8]
-        ensures { result.now ≡ failure_rest self.now }
+impl Refusal {
+    // What it is for, in the words of a check.
+    fn words(&self) -> &[u8]
+        ensures { result.now ≡ refusal_words self.now }
     {
         match self {
-            Failure::TooLarge(_, limit) => limit_rest(*limit),
-            Failure::NotText
-            | Failure::NoName(_)
-            | Failure::CannotRead(_)
-            | Failure::Refused
-            | Failure::Input
-            | Failure::Output
-            | Failure::Unanswered
-            | Failure::NotDone
-            | Failure::Run => b"\n",
+            Refusal::Fault(sentence) => sentence.as_bytes(),
+            Refusal::NoSentence => b"there was no memory for the sentence on its first fault",
+            Refusal::Memory => NO_MEMORY.as_bytes(),
+            Refusal::Unserved(Unserved::NoServe) => {
+                b"configuration ok for script, not for serve: no [serve]"
+            }
+            Refusal::Unserved(Unserved::NoSockets) => {
+                b"configuration ok for script, not for serve: a port without listen or peer"
+            }
         }
     }
 }
 
-// The end of a first line, and the line that says how many octets a file may have.
-fn limit_rest(limit: FileLimit) -> &'static [u8]
-    ensures { result.now ≡ codes "\n" ++ limit_line limit }
+// Why a file cannot be read, in the words of the C library for the errors of Linux.
+fn reason_words(reason: ErrorKind) -> &'static [u8]
+    ensures { result.now ≡ reason_words reason }
+{
+    match reason {
+        ErrorKind::NotFound => b"No such file or directory",
+        ErrorKind::PermissionDenied => b"Permission denied",
+        ErrorKind::NotADirectory => b"Not a directory",
+        ErrorKind::IsADirectory => b"Is a directory",
+        ErrorKind::FilesystemLoop => b"Too many levels of symbolic links",
+        ErrorKind::InvalidFilename => b"File name too long",
+        ErrorKind::InvalidInput => b"Invalid argument",
+        ErrorKind::ResourceBusy => b"Device or resource busy",
+        ErrorKind::StaleNetworkFileHandle => b"Stale file handle",
+        ErrorKind::TimedOut => b"Connection timed out",
+        _ => b"another error of the system",
+    }
+}
+
+// The line that says how many octets a file may have.
+fn limit_line(limit: FileLimit) -> &'static [u8]
+    ensures { result.now ≡ limit_line limit }
 {
     match limit {
-        FileLimit::Configuration => b"\nagentd: it has more than 268435456 octets\n",
-        FileLimit::Policy => b"\nagentd: it has more than 65536 octets\n",
+        FileLimit::Configuration => b"agentd: it has more than 268435456 octets\n",
+        FileLimit::Policy => b"agentd: it has more than 65536 octets\n",
+    }
+}
+
+// Writes a line that says of a file what the cause is, until a write fails.
+fn write_cause<E: Write>(file: &[u8], cause: &[u8], errors: &mut E) -> Result<(), NotTaken>
+    ensures whole { OnOk result (Appends (E.contents errors.old) (E.contents errors.new)
+        (cause_line file.now cause.now)) }
+    ensures front { TakesFront (E.contents errors.old) (E.contents errors.new)
+        (cause_line file.now cause.now) }
+{
+    write_front(errors, b"agentd: ")?;
+    write_front(errors, file)?;
+    write_front(errors, b": ")?;
+    write_front(errors, cause)?;
+    write_front(errors, b"\n")
+}
+
+// Writes the first line of a failure, until a write fails.
+fn write_first<E: Write>(failure: &Failure<'_>, errors: &mut E) -> Result<(), NotTaken>
+    ensures whole { OnOk result (Appends (E.contents errors.old) (E.contents errors.new)
+        (first_line failure.now)) }
+    ensures front { TakesFront (E.contents errors.old) (E.contents errors.new)
+        (first_line failure.now) }
+{
+    write_front(errors, b"agentd: ")?;
+    write_front(errors, failure.words())?;
+    write_front(errors, failure.name())?;
+    write_front(errors, b"\n")
+}
+
+// Writes the second line of a failure, where it has one, until a write fails.
+fn write_second<E: Write>(failure: &Failure<'_>, errors: &mut E) -> Result<(), NotTaken>
+    ensures whole { OnOk result (Appends (E.contents errors.old) (E.contents errors.new)
+        (second_line failure.now)) }
+    ensures front { TakesFront (E.contents errors.old) (E.contents errors.new)
+        (second_line failure.now) }
+{
+    match failure {
+        Failure::CannotRead(file, reason) => {
+            write_cause(file.as_bytes(), reason_words(*reason), errors)
+        }
+        Failure::TooLarge(_, limit) => write_front(errors, limit_line(*limit)),
+        Failure::RefusedFor(file, refusal) => {
+            write_cause(file.as_bytes(), refusal.words(), errors)
+        }
+        Failure::NotText
+        | Failure::NoName(_)
+        | Failure::Refused
+        | Failure::Input
+        | Failure::Output
+        | Failure::Unanswered
+        | Failure::NotDone
+        | Failure::Run => write_front(errors, b""),
     }
 }
 
@@ -191,10 +315,8 @@ fn write_line<E: Write>(failure: &Failure<'_>, errors: &mut E) -> Result<(), Not
     ensures front { TakesFront (E.contents errors.old) (E.contents errors.new)
         (failure_line failure.now) }
 {
-    write_front(errors, b"agentd: ")?;
-    write_front(errors, failure.words())?;
-    write_front(errors, failure.name())?;
-    write_front(errors, failure.rest())
+    write_first(failure, errors)?;
+    write_second(failure, errors)
 }
 
 /// How a run of the program ended, as it is reported.
@@ -206,8 +328,8 @@ pub struct Ended {
     pub line: Result<(), NotTaken>,
 }
 
-/// Writes a failure as one line, and for a file with too many octets a second one, or a front of that where
-/// a write fails, and gives its exit status.
+/// Writes a failure as one line, and where a file cannot be read, has too many octets, or is refused, a
+/// second one that says why, or a front of that where a write fails, and gives its exit status.
 pub fn report<E: Write>(failure: &Failure<'_>, errors: &mut E) -> Ended
     ensures status { result.status ≡ failure_status failure.now }
     ensures line { IsLineTaken result.line (E.contents errors.old) (E.contents errors.new)

@@ -39,10 +39,10 @@ impl FileLimit {
 /// Why the octets of a file were not had.
 #[derive(Clone, Copy, Debug)]
 pub enum NotRead<'a> {
-    /// There was no memory for them; the file can be read all the same.
-    Memory,
-    /// This file cannot be read.
-    Unreadable(&'a str),
+    /// There was no memory for those of this file; it can be read all the same.
+    Memory(&'a str),
+    /// This file cannot be read, for a reason of this kind that the system gives.
+    Unreadable(&'a str, ErrorKind),
     /// This file has more octets than this limit.
     TooLarge(&'a str, FileLimit),
 }
@@ -55,8 +55,8 @@ pub trait ReadFile {
     /// The octets of the file of this name, of which it may have as many as this limit.
     ///
     /// # Errors
-    /// `Memory` where there is none for them; `Unreadable`, with the file, where it cannot be read;
-    /// `TooLarge`, with the file and the limit, where it has more octets.
+    /// `Memory`, with the file, where there is none for them; `Unreadable`, with the file and the system's
+    /// reason, where it cannot be read; `TooLarge`, with the file and the limit, where it has more octets.
     fn read_file<'a>(&self, file: &'a str, limit: FileLimit) -> Result<Vec<u8>, NotRead<'a>>
         ensures read { IsReadWithin file.now limit (read_view result) }
         ensures gave { gives self.now file.now (read_view result) };
@@ -74,8 +74,8 @@ impl<R: Files + AllocGlobal> ReadFile for SystemFiles<'_, R> {
         match file_within(self.0, file, limit.most_octets()) {
             Ok(Some(octets)) => Ok(octets),
             Ok(None) => Err(NotRead::TooLarge(file, limit)),
-            Err(error) if error.kind() == ErrorKind::OutOfMemory => Err(NotRead::Memory),
-            Err(_) => Err(NotRead::Unreadable(file)),
+            Err(error) if error.kind() == ErrorKind::OutOfMemory => Err(NotRead::Memory(file)),
+            Err(error) => Err(NotRead::Unreadable(file, error.kind())),
         }
     }
 }

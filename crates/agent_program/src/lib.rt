@@ -13,12 +13,14 @@
 //! [`check_octets`] reports whether octets are one, [`check_read`] whether what was read of a file is.
 //! [`open_service`] gives what octets say is to be served, [`serve_opened`] serves it for its rounds,
 //! and [`serve_opened_forever`] without an end. [`collect_words`] has the words of a command line as
-//! a list. [`report`] writes the line of a [`Failure`], and a second of a file with too many octets, or a front of it, which is [`NotTaken`] whole.
+//! a list. [`report`] writes the line of a [`Failure`], and behind it a second of a file that cannot be read, has too
+//! many octets, or is refused, which has a [`Refusal`], or a front of them, which is [`NotTaken`] whole.
 //!
 //! # Definitions
 //! `specs/Files.antt`: what a read of a file gave; `specs/Agents.antt`: the world that a
 //! configuration opens; `specs/Runs.antt`: what a run by octets promises; `specs/Services.antt`: what
-//! they give to be served; `specs/Endings.antt`: statuses, and the line of each failure;
+//! they give to be served; `specs/Endings.antt`: statuses, and the lines of each failure;
+//! `specs/Refusals.antt`: why octets were not run or served, as a failure;
 //! `specs/Reporting.antt`: what a check reports; `specs/Explanations.antt`: what is written of the decision on
 //! a request; `specs/Commands.antt`: what is done to have a served agent do a command;
 //! `specs/Programs.antt`: what the program does for what is asked. What words ask for
@@ -48,7 +50,7 @@ mod serving;
 pub use checking::{check_octets, check_read};
 pub use collecting::collect_words;
 pub use commanding::AskAgent;
-pub use failure::{Ended, Failure, end_answered, report};
+pub use failure::{Ended, Failure, Refusal, end_answered, report};
 pub use files::{FileLimit, MAX_CONFIGURATION, NotRead, ReadFile, SystemFiles};
 pub use opening::NotRun;
 pub use reporting::NotTaken;

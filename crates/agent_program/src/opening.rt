@@ -14,12 +14,15 @@ use rstp_core::{MAX_PORTS, PortConfig};
 use script_core::RunFault;
 use setphase_core::{MibObject, Registry, World, are_named};
 use std::alloc::Global;
+use udp_agent::Unserved;
 
 /// Why the octets of a configuration were not run to the end of a script.
 #[derive(Clone, Copy, Debug, PartialEq, Eq)]
 pub enum NotRun {
-    /// They say no configuration; nothing was read or written.
-    Refused,
+    /// They say no configuration, and this is their first fault; nothing was read or written.
+    Refused(ConfigurationFault),
+    /// They say a configuration that cannot be served, for this reason; nothing was read or written.
+    Unserved(Unserved),
     /// There was no memory for the configuration or for what it opens; nothing was read or written.
     Memory,
     /// The objects make no registry; nothing was read or written.
@@ -76,7 +79,7 @@ pub fn read_configuration(alloc: Global, octets: &[u8]) -> Result<Configuration,
     match configuration_in(alloc, octets) {
         Ok(configuration) => Ok(configuration),
         Err(ConfigurationFault::Memory) => Err(NotRun::Memory),
-        Err(_) => Err(NotRun::Refused),
+        Err(fault) => Err(NotRun::Refused(fault)),
     }
 }
 
@@ -84,8 +87,8 @@ pub fn read_configuration(alloc: Global, octets: &[u8]) -> Result<Configuration,
 /// under its policy.
 ///
 /// # Errors
-/// `Refused` only where the octets say no configuration; `Memory` only where they are a text of
-/// more than white space and comments.
+/// `Refused`, with their first fault, only where the octets say no configuration; `Memory` only where
+/// they are a text of more than white space and comments.
 pub fn open(alloc: Global, octets: &[u8]) -> Result<World, NotRun>
     ensures world { IfOk result (λ world. IsWorldOf octets.now world) }
     ensures fault { IfErr result (λ why. IsNotOpened octets.now why) }

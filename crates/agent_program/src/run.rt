@@ -1,6 +1,6 @@
 //! What the program does for what is asked of it.
-ghost use Rattle.std.specs.Prelude.{◌≡◌, map};
-ghost use Rattle.agent_program.specs.Endings.{ended_by};
+ghost use Rattle.std.specs.Prelude.{◌≡◌, map, option_map};
+ghost use Rattle.agent_program.specs.Refusals.{EndsBy};
 ghost use Rattle.agent_program.specs.Files.{read_view};
 ghost use Rattle.agent_program.specs.Reporting.{IsCheckOf};
 ghost use Rattle.agent_program.specs.Services.{OpensRead, OpensFile};
@@ -80,7 +80,10 @@ where
         reader.old reader.new writer.old writer.new result }
 {
     match asked {
-        Asked::BuiltIn => finish(run_by(alloc, objects, BUILT_IN.as_bytes(), reader, writer)),
+        Asked::BuiltIn => {
+            let octets = BUILT_IN.as_bytes();
+            finish(run_by(alloc, objects, None, octets, reader, writer))
+        }
         Asked::Script(file) => finish(run_file(alloc, files, objects, file, reader, writer)),
         Asked::Check(file) => finish(check_file(alloc, files, file, writer)),
         Asked::Serve(file, lasting) => serve_file(alloc, files, objects, file, lasting),
@@ -107,15 +110,17 @@ fn finish<'a, M: MibObject>(
 fn serve_read<'a, M: MibObject>(
     alloc: Global,
     objects: Vec<M>,
+    file: &'a str,
     read: Result<Vec<u8>, NotRead<'a>>,
     lasting: Lasting<'a>,
 ) -> Result<Option<(Registry<M>, Opened, Lasting<'a>)>, Failure<'a>>
-    ensures { OpensRead (map M.state objects.items) lasting.entry (read_view read.entry) result }
+    ensures { OpensRead (map M.state objects.items) lasting.entry file.now (read_view read.entry)
+        result }
 {
     match read {
         Ok(octets) => match open_service(alloc, objects, &octets) {
             Ok((registry, opened)) => Ok(Some((registry, opened, lasting))),
-            Err(reason) => Err(failure_of(reason)),
+            Err(reason) => Err(failure_of(alloc, Some(file), &octets, reason)),
         },
         Err(unread) => Err(read_failure(unread)),
     }
@@ -133,23 +138,25 @@ fn serve_file<'a, F: ReadFile, M: MibObject>(
     ensures { OpensFile (F.gives files.now) (map M.state objects.items) lasting.entry file.now result }
 {
     let read = files.read_file(file, FileLimit::Configuration);
-    serve_read(alloc, objects, read, lasting)
+    serve_read(alloc, objects, file, read, lasting)
 }
 
-// Runs the script by the octets of a configuration.
+// Runs the script by the octets of a configuration, which are those of this file, if of one.
 fn run_by<'a, M: MibObject, I: Read, O: Write>(
     alloc: Global,
     objects: Vec<M>,
+    file: Option<&'a str>,
     octets: &[u8],
     reader: &mut I,
     writer: &mut O,
 ) -> Result<(), Failure<'a>>
     ensures { RunsBy I.remaining O.contents (map M.state objects.items)
-        octets.now reader.old reader.new writer.old writer.new result }
+        (option_map (λ name. name.now) file.entry) octets.now reader.old reader.new writer.old writer.new
+        result }
 {
     match run_octets(alloc, objects, octets, reader, writer) {
         Ok(_) => Ok(()),
-        Err(why) => Err(failure_of(why)),
+        Err(why) => Err(failure_of(alloc, file, octets, why)),
     }
 }
 
@@ -157,15 +164,16 @@ fn run_by<'a, M: MibObject, I: Read, O: Write>(
 fn run_read<'a, M: MibObject, I: Read, O: Write>(
     alloc: Global,
     objects: Vec<M>,
+    file: &'a str,
     read: Result<Vec<u8>, NotRead<'a>>,
     reader: &mut I,
     writer: &mut O,
 ) -> Result<(), Failure<'a>>
     ensures { RunsRead I.remaining O.contents (map M.state objects.items)
-        (read_view read.entry) reader.old reader.new writer.old writer.new result }
+        file.now (read_view read.entry) reader.old reader.new writer.old writer.new result }
 {
     match read {
-        Ok(octets) => run_by(alloc, objects, &octets, reader, writer),
+        Ok(octets) => run_by(alloc, objects, Some(file), &octets, reader, writer),
         Err(why) => Err(read_failure(why)),
     }
 }
@@ -190,7 +198,7 @@ where
         reader.old reader.new writer.old writer.new result }
 {
     let read = files.read_file(file, FileLimit::Configuration);
-    run_read(alloc, objects, read, reader, writer)
+    run_read(alloc, objects, file, read, reader, writer)
 }
 
 // Reports whether a file is a configuration.

@@ -31,8 +31,9 @@ fn run_opened<M: MibObject, I: Read, O: Write>(
 /// The policy, the address and the ports are the configuration's own.
 ///
 /// # Errors
-/// `Refused` only where the octets say no configuration, `Memory` only where they are a text of
-/// more than white space and comments, and `NoRegistry` only where the objects make no registry:
+/// `Refused`, with their first fault, only where the octets say no configuration, `Memory` only where
+/// they are a text of more than white space and comments, and `NoRegistry` only where the objects make
+/// no registry:
 /// then nothing is read or written. `Stopped` as [`run_script`] has it.
 pub fn run_octets<M: MibObject, I: Read, O: Write>(
     alloc: Global,

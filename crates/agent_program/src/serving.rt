@@ -42,7 +42,7 @@ pub struct Opened {
 /// Opens what the configuration that octets say is to serve.
 ///
 /// # Errors
-/// `Refused` and `Memory`, as [`open_service`] has them.
+/// `Refused`, `Unserved` and `Memory`, as [`open_service`] has them.
 pub fn open_setup(alloc: Global, octets: &[u8]) -> Result<Opened, NotRun>
     ensures opened { IfOk result (λ opened. IsOpened octets.now opened) }
     ensures fault { IfErr result (λ why. IsNotSetUp octets.now why) }
@@ -58,16 +58,17 @@ pub fn open_setup(alloc: Global, octets: &[u8]) -> Result<Opened, NotRun>
             world: undropped(bridge, configuration.policy),
             setup,
         }),
-        Err(_) => Err(NotRun::Refused),
+        Err(why) => Err(NotRun::Unserved(why)),
     }
 }
 
 /// The registry of these objects, and what the configuration that octets say opens to be served.
 ///
 /// # Errors
-/// `Refused` only where the octets say no configuration, or one that does not say how to serve, or
-/// not of each port where its frames come in and go out; `Memory` only where they are a text of
-/// more than white space and comments; `NoRegistry` only where the objects make no registry.
+/// `Refused`, with their first fault, only where the octets say no configuration; `Unserved` only where
+/// they say one that does not say how to serve, or not of each port where its frames come in and go
+/// out; `Memory` only where they are a text of more than white space and comments; `NoRegistry` only
+/// where the objects make no registry.
 pub fn open_service<M: MibObject>(
     alloc: Global,
     objects: Vec<M>,
