@@ -178,11 +178,14 @@ policy_detail ms fault = policy_sentence fault
 
 -- ---- the keys of a configuration's own
 
+-- what would be right of a port
+abbrev pub port_rule_in : Members → ℕ → PortKey → List ℕ
+port_rule_in ms row AnotherOfPort =
+    unknown_rule (unknown_of part.Port (table_in (row_at (codes "port") row ms))) (port_rule AnotherOfPort)
+port_rule_in ms row wrong = port_rule wrong
+
 abbrev pub port_detail : Members → ℕ → PortKey → List ℕ
-port_detail ms row AnotherOfPort =
-    row_sentence (codes "[[port]]") row
-    (unknown_rule (unknown_of part.Port (table_in (row_at (codes "port") row ms))) (port_rule AnotherOfPort))
-port_detail ms row wrong = row_sentence (codes "[[port]]") row (port_rule wrong)
+port_detail ms row wrong = row_sentence (codes "[[port]]") row (port_rule_in ms row wrong)
 
 abbrev pub serve_detail : Members → ServeKey → List ℕ
 serve_detail ms AnotherOfServe =

@@ -2,7 +2,7 @@
 //! of the address.
 ghost use Rattle.std.specs.Prelude.{◌≡◌, IfOk, ℕ, List, option_map, string_bytes};
 ghost use Rattle.toml.specs.View.{table_view, view};
-ghost use Rattle.configuration.specs.Details.{members_in, row_at, table_in, unknown_rule, address_rule, address_sentence, model_rule, name_rule, field_text, name_length, length_text, rows_key, field_detail, length_detail, policy_detail, port_detail, serve_detail, keys_detail, expected_sentence, table_sentence, IsSentenceIn, sentence_by};
+ghost use Rattle.configuration.specs.Details.{members_in, row_at, table_in, unknown_rule, address_rule, address_sentence, model_rule, name_rule, field_text, name_length, length_text, rows_key, field_detail, length_detail, policy_detail, port_rule_in, port_detail, serve_detail, keys_detail, expected_sentence, table_sentence, IsSentenceIn, sentence_by};
 
 use crate::address::{AddressFault, address_fault};
 use crate::fault::{ConfigurationFault, PolicyKey, PortKey, ServeKey};
@@ -235,19 +235,32 @@ fn policy_detail(alloc: Global, table: &Table, fault: PolicyFault) -> Result<Str
     }
 }
 
+// What would be right of a port.
+fn port_rule_in(
+    alloc: Global,
+    table: &Table,
+    row: usize,
+    key: PortKey,
+) -> Result<String, AllocError>
+    ensures { IfOk result (λ text. string_bytes text
+        ≡ port_rule_in (table_view table.now) row key) }
+{
+    match key {
+        PortKey::Other => {
+            let unknown = unknown_of(Part::Port, table_in(row_at(table, "port", row)));
+            unknown_rule(alloc, unknown, port_rule(PortKey::Other))
+        }
+        key => String::from_str(alloc, port_rule(key)),
+    }
+}
+
 // The sentence on a port.
 fn port_detail(alloc: Global, table: &Table, row: usize, key: PortKey) -> Result<String, AllocError>
     ensures { IfOk result (λ text. string_bytes text
         ≡ port_detail (table_view table.now) row key) }
 {
-    match key {
-        PortKey::Other => {
-            let unknown = unknown_of(Part::Port, table_in(row_at(table, "port", row)));
-            let rule = unknown_rule(alloc, unknown, port_rule(key))?;
-            row_sentence(alloc, "[[port]]", row, &rule)
-        }
-        key => row_sentence(alloc, "[[port]]", row, port_rule(key)),
-    }
+    let rule = port_rule_in(alloc, table, row, key)?;
+    row_sentence(alloc, "[[port]]", row, &rule)
 }
 
 // The sentence on `serve`.
