@@ -20,7 +20,7 @@ returns-in_err-name-clause-read c =
     let words = c.args.words.now in
     let i = c.loop-word.word-index in
     let low : i < length words = omega arith in
-    passed (IsNameText (get_or words i d).now) (AreSomeTexts IsAskedText (map bytes words)) (λ bs texts. let t = stated_at IsAskedText bytes words i d low bs texts in (t.0.name, t.1.name)) c.in_err-name.field-0.0 c.from_residual.result c.in_err-name.ensures c.from_residual.ensures.1
+    passed (IsNameText (get_or words i d).now) (AreSomeTexts IsAskedText (map bytes words)) (λ bs texts. let t = stated_at IsAskedText bytes words i d low bs texts in (t.0.name, t.1.name)) c.in_err-name.field-0.0 c.from_residual.result c.in_err-name.ensures.read c.from_residual.ensures.1
 
 pub loop-word-preserved : goal.loop-word-preserved
 loop-word-preserved c =
@@ -28,7 +28,7 @@ loop-word-preserved c =
     let i = c.loop-word.word-index in
     let low : i < length words = omega arith in
     let b : Binding = record { name = c.in_ok-name.name; value = Null } in
-    let one : IsAskedText (get_or words i d).now b = record { name = c.in_ok-name.ensures; value = refl } in
+    let one : IsAskedText (get_or words i d).now b = record { name = c.in_ok-name.ensures.read; value = refl } in
     record {
       texts = texts_more IsAskedText text words i d c.loop-word.bindings c.push.new.self b low c.loop-word.invariant.texts one c.in_ok-push.ensures.ok;
       encodable = encodable_more c.loop-word.bindings c.push.new.self b c.loop-word.invariant.encodable (asked_encodable (get_or words i d).now b one) c.in_ok-push.ensures.ok;
