@@ -3,7 +3,7 @@ ghost use Rattle.std.specs.Prelude.{◌≡◌, OnOk, option_map};
 ghost use Rattle.std.specs.Io.KnownBytes.{Appends};
 ghost use Rattle.std.specs.IoError.{error_kind};
 ghost use Rattle.agent_program.specs.Reporting.{IsReported};
-ghost use Rattle.agent_program.specs.Endings.{failure_status, failure_words, failure_name, reason_words, refusal_words, limit_line, cause_line, first_line, second_line, failure_line, words_failure, run_failure, read_failure, question_failure, answered_status, answered_line, TakesFront, IsLineTaken};
+ghost use Rattle.agent_program.specs.Endings.{failure_status, failure_words, failure_name, reason_words, refusal_words, limit_line, cause_line, first_line, second_line, failure_line, refused_for, words_failure, run_failure, read_failure, question_failure, answered_status, answered_line, TakesFront, IsLineTaken};
 ghost use Rattle.agent_program.specs.Refusals.{IsRefusalOf, IsFailureOf};
 
 use crate::files::{FileLimit, NotRead};
