@@ -85,7 +85,7 @@ reason_words kind.InvalidInput = codes "Invalid argument"
 reason_words kind.ResourceBusy = codes "Device or resource busy"
 reason_words kind.StaleNetworkFileHandle = codes "Stale file handle"
 reason_words kind.TimedOut = codes "Connection timed out"
-reason_words other = codes "another error of the system"
+reason_words unnamed = codes "another error of the system"
 
 -- why the configuration of a file is refused, in the words of a check
 abbrev pub refusal_words : Refusal → List ℕ
@@ -147,7 +147,7 @@ answered_line WordsMemory = failure_line RunFailed
 -- words that were not had, as a failure of the program: want of memory for them is not their fault
 abbrev pub words_failure : ErrorKind → Failure
 words_failure kind.OutOfMemory = RunFailed
-words_failure other = NotText
+words_failure unnamed = NotText
 
 -- a run that did not reach its end, as a failure of the program
 abbrev pub run_failure : RunFault → Failure
