@@ -22,7 +22,7 @@ test:
 	RT_JOBS=$${RT_JOBS:-$$(nproc)} rt ci
 	tools/stored-scripts
 	tools/random-script
-	tools/refused-growths --where-possible names family
+	tools/refused-growths --where-possible names family views
 	tools/stored-networks
 	tools/random-networks
 	tools/udp-session
