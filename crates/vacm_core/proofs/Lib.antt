@@ -21,3 +21,7 @@ pub mod OfView
 pub mod Marks
 pub mod Puts
 pub mod SameIndexes
+pub mod KeptBits
+pub mod IndexBlocks
+pub mod LeftRows
+pub mod BlockSearch

@@ -10,6 +10,8 @@ use Rattle.std.proofs.lemmas.List.{length-set, get_or-set_same, get_or-set_other
 use Rattle.std.proofs.lemmas.Option.{slice_get-get_or, slice_get_past, get_or_from_slice_get, slice_get_within}
 use Rattle.vacm_core.specs.declared.tree.Step.{Step}
 use Rattle.vacm_core.specs.declared.tables.FamilyRow.{FamilyRow}
+use Rattle.vacm_core.specs.Bitmaps.{IsIn, AreIn, AreInBut}
+use Rattle.vacm_core.specs.declared.bitmaps.Block.{Block}
 use Rattle.vacm_core.specs.Changes.{with_row, masked, typed, with_mask, with_type}
 use Rattle.vacm_core.specs.Keys.{key_cmp, key_at, key_or, view_key, index_key, IsIndex}
 use Rattle.vacm_core.specs.Rows.{same_family, family_lengths, family_fields, family_rules}
@@ -216,3 +218,30 @@ sound_with t rows sound differ formed = record {
   family_rows = formed;
   context_rows = sound.context_rows;
 }
+
+-- ---- blocks of bitmaps
+
+-- a changed mask leaves each other row's bits as they are right
+pub mask_blocks : (rows : List FamilyRow) (n : ℕ) (mask index : List ℕ) (blocks : List Block) → n < length rows → AreIn rows index blocks → AreInBut (with_mask rows n mask) index n blocks
+mask_blocks rows n mask index blocks lt are rank m row ne at here =
+    let there = row_there rows n lt in
+    let long = (mask_alike rows n mask lt).long in
+    let within : m < length rows = let new = slice_get_within (with_mask rows n mask) m row here in omega (arith, new, long) in
+    let same = mask_others_at rows n mask there.0 there.1 m row ne ∙ get_or_from_slice_get (with_mask rows n mask) m row row here in
+    are rank m row at (slice_get-get_or rows m row within ∙ ap Some same)
+
+-- a type is not in the bits
+pub type_blocks : (rows : List FamilyRow) (n : ℕ) (included : Bool) (index : List ℕ) (blocks : List Block) → n < length rows → AreIn rows index blocks → AreIn (with_type rows n included) index blocks
+type_blocks rows n included index blocks lt are rank m row at here =
+    let old = row_there rows n lt in
+    let long = (type_alike rows n included lt).long in
+    let within : m < length rows = let new = slice_get_within (with_type rows n included) m row here in omega (arith, new, long) in
+    let whole = ap (λ (l : List FamilyRow). get_or l m row) (type_set rows n included old.0 old.1) in
+    let found = get_or_from_slice_get (with_type rows n included) m row row here in
+    elim (cases_eq m n) [
+      | inl e ↦
+          let new : row ≡ typed included old.0 = sym found ∙ whole ∙ ap (λ (i : ℕ). get_or (set rows n (typed included old.0)) i row) e ∙ get_or-set_same rows n (typed included old.0) row lt in
+          let before : IsIn blocks rank old.0 = are rank n old.0 (subst (λ (k : ℕ). slice_get index rank ≡ Some k) e at) old.1 in
+          subst (IsIn blocks rank) (sym new) before
+      | inr ne ↦ are rank m row at (slice_get-get_or rows m row within ∙ ap Some (sym (whole ∙ get_or-set_other rows n m (typed included old.0) row ne) ∙ found))
+    ]

@@ -1,4 +1,5 @@
 pub mod Texts
+pub mod Bitmaps
 pub mod Levels
 pub mod Masks
 pub mod Rules

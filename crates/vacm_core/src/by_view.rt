@@ -1,17 +1,21 @@
 //! The row of a view that decides on a name, by the rows of the view in the order of their indexes:
 //! the last of them that has the name (RFC 3415, vacmViewTreeFamilyTable).
-ghost use Rattle.std.specs.Prelude.{◌≡◌, ◌≤◌, ◌<◌, true, false, All, length};
+ghost use Rattle.std.specs.Prelude.{◌≡◌, ◌≤◌, ◌<◌, ◌-◌, ◌/◌, ◌%◌, ℕ, true, false, All, length, take, drop, slice_get, slice_index_or};
+ghost use Rattle.std.specs.Int.{bit_at};
 ghost use Rattle.std.specs.Option.{ForSome};
 ghost use Rattle.std.specs.Cmp.Lexicographic.{slice_cmp};
 ghost use Rattle.std.specs.List.Sorted.{IsPartitionPoint};
 ghost use Rattle.std.specs.Ordering.{nat_cmp, is_lt};
-ghost use Rattle.vacm_core.specs.Families.{matches, deciding_family};
+ghost use Rattle.vacm_core.specs.Bitmaps.{IsIn, AreIn};
+ghost use Rattle.vacm_core.specs.Families.{agrees_from, matches, deciding_family};
 ghost use Rattle.vacm_core.specs.FamilyIndex.{family_index};
 ghost use Rattle.vacm_core.specs.Keys.{index_key, IsIndex};
-ghost use Rattle.vacm_core.specs.OfView.{index_front, is_before, AreOfView, IsLastMatch};
+ghost use Rattle.vacm_core.specs.OfView.{index_front, is_before, AreOfView, is_match, IsLastMatch};
+ghost use Rattle.vacm_core.specs.declared.tables.FamilyRow.{FamilyRow};
 ghost use Rattle.vacm_core.specs.Rows.{same_family};
 ghost use Rattle.vacm_core.specs.Tables.{KeysDiffer};
 
+use crate::bitmaps::{BLOCK_ROWS, Block};
 use crate::deciding::agrees_by_bits;
 use crate::name::Name;
 use crate::tables::FamilyRow;
@@ -54,19 +58,21 @@ fn count_before(rows: &[FamilyRow], index: &[usize], view: &[u8], long: usize) -
     index.partition_point(|n| is_before(rows, *n, view, long))
 }
 
-// The numbers of rows, in the order of their indexes, among which are those of a view whose subtrees
-// have at most so many numbers. Of few rows these are all.
-fn of_view<'a>(rows: &[FamilyRow], index: &'a [usize], view: &[u8], most: usize) -> &'a [usize]
+// Where those rows of an index begin and end that are of a view and whose subtrees have at most so many
+// numbers. Of few rows these are all.
+fn range_of_view(rows: &[FamilyRow], index: &[usize], view: &[u8], most: usize) -> (usize, usize)
     requires index { IsIndex index_key rows.now index.now }
     requires most { most < usize.MAX }
-    ensures { AreOfView rows.now view.now most result.now }
+    ensures order { result.0 ≤ result.1 }
+    ensures end { result.1 ≤ length index.now }
+    ensures of_view { AreOfView rows.now view.now most (take (result.1 - result.0) (drop result.0 index.now)) }
 {
     if index.len() <= SHORT_INDEX {
-        return index;
+        return (0, index.len());
     }
     let first = count_before(rows, index, view, 0);
     let end = count_before(rows, index, view, most + 1);
-    &index[first..end]
+    (first, end)
 }
 
 // Whether a row is of a view, and its family has a name. The view is compared last, since most rows
@@ -91,14 +97,91 @@ fn last_match(rows: &[FamilyRow], numbers: &[usize], view: &Name, name: &[u32]) 
     None
 }
 
+// The last of the rows of these numbers that is left, is of a view and has a name. A row is left if its
+// bit is set.
+fn last_left(
+    rows: &[FamilyRow],
+    numbers: &[usize],
+    left: u64,
+    view: &Name,
+    name: &[u32],
+) -> Option<usize>
+    requires within { All (λ n. n < length rows.now) numbers.now }
+    requires left { (k d : ℕ) → k < length numbers.now
+        → is_match view.now name.now (slice_get rows.now (slice_index_or numbers.now k d)) ≡ true
+        → bit_at left k ≡ 1 }
+    requires short { length numbers.now ≤ 64 }
+    ensures { IsLastMatch rows.now view.now name.now numbers.now result }
+{
+    let mut left = left;
+    'bits: while left != 0 {
+        let k = 63 - left.leading_zeros() as usize;
+        left &= !(1 << k);
+        if k < numbers.len() && is_match(&rows[numbers[k]], view, name) {
+            return Some(numbers[k]);
+        }
+    }
+    None
+}
+
+// The rows of a block of an index whose families may have a name; all where there are no bitmaps.
+fn rows_left(blocks: &[Block], block: usize, name: &[u32]) -> u64
+    ensures { (rank : ℕ) (row : FamilyRow) → rank / 64 ≡ block → IsIn blocks.now rank row
+        → agrees_from 0 row.mask row.subtree name.now ≡ true → bit_at result (rank % 64) ≡ 1 }
+{
+    match blocks.get(block) {
+        Some(block) => block.rows_left(name),
+        None => u64::MAX,
+    }
+}
+
+// The last of the rows between two places of an index that is of a view and has a name, by bitmaps.
+fn last_of_blocks(
+    rows: &[FamilyRow],
+    index: &[usize],
+    blocks: &[Block],
+    range: (usize, usize),
+    view: &Name,
+    name: &[u32],
+) -> Option<usize>
+    requires within { All (λ n. n < length rows.now) index.now }
+    requires order { range.0 ≤ range.1 }
+    requires end { range.1 ≤ length index.now }
+    requires blocks { AreIn rows.now index.now blocks.now }
+    ensures { IsLastMatch rows.now view.now name.now
+        (take (range.1 - range.0) (drop range.0 index.now)) result }
+{
+    let (first, end) = range;
+    for block in (first / BLOCK_ROWS..end.div_ceil(BLOCK_ROWS)).rev() {
+        let from = first.max(block * BLOCK_ROWS);
+        let to = end.min(block * BLOCK_ROWS + BLOCK_ROWS);
+        let left = rows_left(blocks, block, name) >> (from % BLOCK_ROWS);
+        if let Some(n) = last_left(rows, &index[from..to], left, view, name) {
+            return Some(n);
+        }
+    }
+    None
+}
+
 /// The number of the row of a view that decides on a name, found among the rows of the view from
-/// behind. It takes no memory.
-pub fn last_of_view(rows: &[FamilyRow], index: &[usize], view: &Name, name: &[u32]) -> Option<usize>
+/// behind, by their bitmaps where there are some. It takes no memory.
+pub fn last_of_view(
+    rows: &[FamilyRow],
+    index: &[usize],
+    blocks: &[Block],
+    view: &Name,
+    name: &[u32],
+) -> Option<usize>
     requires index { IsIndex index_key rows.now index.now }
+    requires blocks { AreIn rows.now index.now blocks.now }
     requires differ { KeysDiffer same_family rows.now }
     ensures place { result ≡ deciding_family rows.now view.now name.now }
     ensures within { ForSome result (λ n. n < length rows.now) }
 {
-    let numbers = of_view(rows, index, view.as_bytes(), name.len());
-    last_match(rows, numbers, view, name)
+    let (first, end) = range_of_view(rows, index, view.as_bytes(), name.len());
+    if blocks.is_empty() {
+        last_match(rows, &index[first..end], view, name)
+    } else {
+        last_of_blocks(rows, index, blocks, (first, end), view, name)
+    }
 }

@@ -5,6 +5,7 @@ ghost use Rattle.std.specs.Option.{ForSome};
 ghost use Rattle.vacm_core.specs.Rows.{same_family};
 ghost use Rattle.vacm_core.specs.Tables.{KeysDiffer};
 ghost use Rattle.vacm_core.specs.Access.{has_view};
+ghost use Rattle.vacm_core.specs.Bitmaps.{AreIn};
 ghost use Rattle.vacm_core.specs.Families.{deciding_family};
 ghost use Rattle.vacm_core.specs.FamilyIndex.{next_family, family_at};
 ghost use Rattle.vacm_core.specs.Fronts.{IsShortestFront};
@@ -15,6 +16,7 @@ ghost use Rattle.vacm_core.specs.declared.tree.Step.{Step};
 ghost use Rattle.vacm_core.specs.declared.limits.TheConstants.{MAX_MASK};
 ghost use Rattle.vacm_core.specs.declared.tables.FamilyRow.{FamilyRow};
 
+use crate::bitmaps::{Block, bitmaps_of, put_row};
 use crate::by_index::{self, numbers_by_index};
 use crate::by_view::last_of_view;
 use crate::copying::copied_rows;
@@ -72,10 +74,13 @@ pub struct Families {
     view_index: Rows<usize>,
     // By the index of the table.
     table_index: Rows<usize>,
+    // By that index, of many rows.
+    blocks: Vec<Block>,
 }
 
 impl Model for Families {
     ghost use Rattle.std.specs.Prelude.{List};
+    ghost use Rattle.vacm_core.specs.Bitmaps.{AreIn};
     ghost use Rattle.vacm_core.specs.Keys.{IsIndex, view_key, index_key};
     ghost use Rattle.vacm_core.specs.Trees.{AreWithTree};
     ghost use Rattle.vacm_core.specs.declared.tables.FamilyRow.{FamilyRow};
@@ -86,7 +91,8 @@ impl Model for Families {
 
     ghost invariant = { λ f. AreWithTree f.rows.items f.tree
         × IsIndex view_key f.rows.items f.view_index
-        × IsIndex index_key f.rows.items f.table_index };
+        × IsIndex index_key f.rows.items f.table_index
+        × AreIn f.rows.items f.table_index f.blocks.items };
 }
 
 // By hand: who drops the rows then knows nothing of the tree.
@@ -97,6 +103,7 @@ impl Drop for Families {
             tree: _tree,
             view_index: _view_index,
             table_index: _table_index,
+            blocks: _blocks,
         } = self;
     }
 }
@@ -115,11 +122,13 @@ impl Families {
         let tree = tree_of(alloc, rows.as_slice())?;
         let view_index = index_of(alloc, rows.as_slice())?;
         let table_index = numbers_by_index(alloc, rows.as_slice())?;
+        let blocks = bitmaps_of(alloc, rows.as_slice(), table_index.as_slice())?;
         Ok(Families {
             rows: rows.into_vec(),
             tree,
             view_index,
             table_index,
+            blocks,
         })
     }
 
@@ -143,8 +152,9 @@ impl Families {
     }
 
     /// Puts the mask of the row of this number, and gives the one that it had. It takes no memory. A
-    /// mask that had no 0 takes a walk along one way, any other one along the way of each row. What stays
-    /// marked that no row needs any more costs time alone, and no clause speaks of it.
+    /// mask that had no 0 takes a walk along one way, any other one along the way of each row; both go
+    /// along the index. What stays marked that no row needs any more costs time alone, and no clause
+    /// speaks of it.
     pub fn put_mask(&mut self, n: usize, mask: Mask) -> Mask
         requires { n < length self.old }
         ensures rows { self.new ≡ with_mask self.old n mask }
@@ -154,6 +164,8 @@ impl Families {
         let before = put_mask(&mut self.rows, n, mask);
         let was_open = has_zero(before.as_slice());
         mark_changed(&mut self.tree, self.rows.as_slice(), n, was_open);
+        let index = self.table_index.as_slice();
+        put_row(&mut self.blocks, index, self.rows.as_slice(), n);
         before
     }
 
@@ -172,7 +184,8 @@ impl Families {
         ensures within { ForSome result (λ n. n < length self.now) }
     {
         let index = self.table_index.as_slice();
-        deciding_family(&self.tree, self.rows.as_slice(), index, view, name)
+        let blocks = self.blocks.as_slice();
+        deciding_family(&self.tree, self.rows.as_slice(), index, blocks, view, name)
     }
 
     /// The shortest front of a name under which the answer by the row that decides holds.
@@ -394,37 +407,40 @@ fn walked(tree: &Radix, rows: &[FamilyRow], view: &Name, name: &[u32]) -> Option
     if left == 0 { None } else { Some(best) }
 }
 
-// Whether rows are so few that a scan takes no longer than a walk of their tree.
-fn are_few(tree: &Radix, rows: &[FamilyRow]) -> bool {
-    let few = if tree.starts_loose() {
-        FEW_OPEN_ROWS
+// Whether a scan takes no longer than a walk of the tree of rows: there are few of them, or bitmaps of
+// rows whose ways part first at a place that some mask leaves open.
+fn is_for_scan(tree: &Radix, rows: &[FamilyRow], blocks: &[Block]) -> bool {
+    if tree.starts_loose() {
+        rows.len() <= FEW_OPEN_ROWS || !blocks.is_empty()
     } else {
-        FEW_ROWS
-    };
-    rows.len() <= few
+        rows.len() <= FEW_ROWS
+    }
 }
 
 // The number of the family row of a view that decides on a name: by the tree of the rows or, of few
-// rows and where its walk gives up, by the rows of the view in the order of their indexes.
+// rows, of rows that are open early, and where its walk gives up, by the rows of the view in the order
+// of their indexes.
 fn deciding_family(
     tree: &Radix,
     rows: &[FamilyRow],
     index: &[usize],
+    blocks: &[Block],
     view: &Name,
     name: &Oid,
 ) -> Option<usize>
     requires tree { IsTreeOf (reaches tree.now) rows.now }
     requires index { IsIndex index_key rows.now index.now }
+    requires blocks { AreIn rows.now index.now blocks.now }
     requires differ { KeysDiffer same_family rows.now }
     ensures place { result ≡ deciding_family rows.now view.now name.now }
     ensures within { ForSome result (λ n. n < length rows.now) }
 {
     let name = name.as_slice();
-    if are_few(tree, rows) {
-        return last_of_view(rows, index, view, name);
+    if is_for_scan(tree, rows, blocks) {
+        return last_of_view(rows, index, blocks, view, name);
     }
     match walked(tree, rows, view, name) {
         Some(best) => best,
-        None => last_of_view(rows, index, view, name),
+        None => last_of_view(rows, index, blocks, view, name),
     }
 }

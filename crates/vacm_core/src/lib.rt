@@ -39,8 +39,9 @@
 //! Inside the crate: `specs/Trees.antt`: which family rows a tree leads to, by which numbers. A
 //! `Vacm` keeps a radix tree of its family rows, and `Vacm::in_view` goes by it, or by the order of
 //! their indexes (`specs/OfView.antt`): the row that it finds is the one that decides among all of
-//! them. `specs/Keys.antt`: the order of rows by their keys, by which a `Vacm` finds a group row,
-//! the access rows of a group, whether a view has a family, and a family row by its index.
+//! them. Of more than 64 rows it goes by bitmaps there (`specs/Bitmaps.antt`). `specs/Keys.antt`: the
+//! order of rows by their keys, by which a `Vacm` finds a group row, the access rows of a group,
+//! whether a view has a family, and a family row by its index.
 //!
 //! # Laws
 //! In [`laws`]: a row decides wherever one fits. Of the names below a prefix, which a family has.
@@ -61,14 +62,18 @@
 //! view has a family. `Vacm::hides_all` reads each family row, `Vacm::in_view` those that its tree
 //! leads to. Where a walk of the tree would enter a large part of it, since many places are open,
 //! and where there are few rows, `in_view` goes over the rows of the view that are no longer than
-//! the name: it finds them by halves, and takes them from the longest on until one has the name. So
-//! it takes at most some twice the time of a scan of the view's rows, but where a view has a few of
-//! many rows. `Vacm::in_view_under` takes the time of `Vacm::in_view`, and then reads each family
-//! row once. `Vacm::put_mask` goes along the way of its row where the mask before had no 0, else
-//! along that of each row: some 0.3 ms at 1,000 rows. A run of numbers of which a put mask leaves
-//! one open is passed whole, while any does.
+//! the name: it finds them by halves, and takes them from the longest on until one has the name. Where
+//! the table has more than 64 rows it compares those alone that bitmaps leave, 64 rows at a time: a
+//! word for each digit of four bits that differs in them, of each number of the name. So it takes at
+//! most some twice the time of a scan of the view's rows, but where a view has a few of many rows, and
+//! where many rows are open at different places, a tenth. `Vacm::in_view_under` takes the time of
+//! `Vacm::in_view`, and then reads each family row once. `Vacm::put_mask` goes along the index, and
+//! along the way of its row where the mask before had no 0, else along that of each row: some 0.3 ms
+//! at 1,000 rows. A run of numbers of which a put mask leaves one open is passed whole, while any does.
+//! Nor does a clause say that bitmaps leave few rows; they leave each row that has the name.
 #![tactic(auto)]
 
+mod bitmaps;
 mod by_index;
 mod by_view;
 mod checking;
