@@ -55,13 +55,12 @@ IsRequestsFault address (Unbound Requests at why) = at ≡ address
 IsRequestsFault address (Unbound (Listen number) at why) = ⊥
 IsRequestsFault address (System why) = Unit {0}
 
--- A fault names the socket of one of these ports, counted from 1, at the address where its frames come in, or
--- none.
+-- A fault names the socket of one of these ports, counted from 1, at the address where its frames come in.
 abbrev pub IsPortFault : List PortSockets → BeginFault → Type 0
 IsPortFault ports (Unbound (Listen number) at why) =
     (1 ≤ number) × (option_map (λ port. port.listen) (slice_get ports (number - 1)) ≡ Some at)
 IsPortFault ports (Unbound Requests at why) = ⊥
-IsPortFault ports (System why) = Unit {0}
+IsPortFault ports (System why) = ⊥
 
 -- A fault names a socket of a setup at its address, or none.
 abbrev pub IsFaultOf : Setup → BeginFault → Type 0

@@ -1,5 +1,6 @@
 //! Binds the sockets of a setup.
-ghost use Rattle.std.specs.Prelude.{◌≡◌, ◌<◌, ◌≤◌, ◌-◌, ◌^◌, IfOk, IfErr, map, length, vec_len};
+ghost use Rattle.std.specs.Prelude.{◌≡◌, ◌<◌, ◌≤◌, ◌+◌, ◌-◌, ◌^◌, [], IfOk, IfErr, map, length, slice_get, vec_len, vec_capacity};
+ghost use Rattle.std.specs.Option.{ForSome};
 ghost use Rattle.udp_agent.specs.Binding.{IsPlan, AreLines, IsUnbound, IsPortFault, IsRequestsFault, IsFaultOf};
 
 use crate::begin_fault::{BeginFault, SetupSocket};
@@ -61,7 +62,9 @@ fn bind_port<R: Net>(
     place: usize,
 ) -> Result<UdpWire, BeginFault>
     requires { place < length ports.now }
-    ensures { IfErr result (IsPortFault ports.now) }
+    ensures unbound { IfErr result (λ fault. ForSome (slice_get ports.now place) (λ port.
+        IsUnbound (SetupSocket.Listen (place + 1)) port.listen fault)) }
+    ensures fault { IfErr result (IsPortFault ports.now) }
 {
     bind_wire(
         rt,
@@ -71,18 +74,21 @@ fn bind_port<R: Net>(
     )
 }
 
-// The wires of the ports, each over a socket of its own.
+// The wires of the ports, each over a socket of its own, in a vector that has the memory for them: it fails at a
+// port's socket alone.
 fn bind_ports<R: Net>(
     rt: &R,
     alloc: Global,
     ports: &[PortSockets],
+    mut wires: Vec<UdpWire>,
 ) -> Result<Vec<UdpWire>, BeginFault>
+    requires none { wires.items ≡ [] }
+    requires space { length ports.now ≤ vec_capacity wires }
     ensures ports { IfOk result (λ wires. vec_len wires ≡ length ports.now) }
     ensures fault { IfErr result (IsPortFault ports.now) }
 {
-    let mut wires = Vec::new(alloc);
     for place in 0..ports.len() {
-        wires.push(bind_port(rt, alloc, ports, place)?)?;
+        wires.push_reserved(bind_port(rt, alloc, ports, place)?);
     }
     Ok(wires)
 }
@@ -154,7 +160,8 @@ pub fn bind_lines<R: Net, C: Clock + Drop>(
         (vec_len lines.workers < 2 ^ 16 - 1) × (vec_len lines.ports < 2 ^ 16 - 1)) }
 {
     let workers = bind_workers(rt, alloc, &setup.serve)?;
-    let ports = bind_ports(rt, alloc, setup.ports.as_slice())?;
+    let wires = Vec::with_capacity(alloc, setup.ports.len())?;
+    let ports = bind_ports(rt, alloc, setup.ports.as_slice(), wires)?;
     let ticker = Paced {
         wire: share_first(ports.as_slice())?,
         pace: SecondPace::new(clock),

@@ -1,6 +1,7 @@
 //! Binds the sockets of a setup that is served without an end.
-ghost use Rattle.std.specs.Prelude.{◌≡◌, ◌<◌, ◌-◌, ◌^◌, All, IfOk, IfErr, is_some, length, vec_len};
+ghost use Rattle.std.specs.Prelude.{◌≡◌, ◌<◌, ◌≤◌, ◌+◌, ◌-◌, ◌^◌, [], All, IfOk, IfErr, is_some, length, slice_get, vec_len, vec_capacity};
 ghost use Rattle.live_audit.specs.Audited.{is_audited};
+ghost use Rattle.std.specs.Option.{ForSome};
 ghost use Rattle.udp_agent.specs.Binding.{AreLines, AreAudited, is_audited_worker, IsUnbound, IsPortFault, IsRequestsFault, IsFaultOf};
 
 use crate::begin_fault::{BeginFault, SetupSocket};
@@ -108,27 +109,33 @@ fn bind_port<R: Net, C: Clock + Copy + Drop>(
     startup: &Arc<Startup, Global>,
 ) -> Result<LastingWire<C>, BeginFault>
     requires { place < length ports.now }
-    ensures { IfErr result (IsPortFault ports.now) }
+    ensures unbound { IfErr result (λ fault. ForSome (slice_get ports.now place) (λ port.
+        IsUnbound (SetupSocket.Listen (place + 1)) port.listen fault)) }
+    ensures fault { IfErr result (IsPortFault ports.now) }
 {
     let (socket, address) = (SetupSocket::Listen(place + 1), ports[place].listen);
     bind_wire(rt, clock, alloc, socket, address, sending, startup)
 }
 
-// The wires of the ports, each over a socket of its own.
+// The wires of the ports, each over a socket of its own, in a vector that has the memory for them: it fails at a
+// port's socket alone.
 fn bind_ports<R: Net, C: Clock + Copy + Drop>(
     rt: &R,
     clock: C,
     alloc: Global,
     ports: &[PortSockets],
+    mut wires: Vec<LastingWire<C>>,
     sending: &Arc<SendingSockets, Global>,
     startup: &Arc<Startup, Global>,
 ) -> Result<Vec<LastingWire<C>>, BeginFault>
+    requires none { wires.items ≡ [] }
+    requires space { length ports.now ≤ vec_capacity wires }
     ensures ports { IfOk result (λ wires. vec_len wires ≡ length ports.now) }
     ensures fault { IfErr result (IsPortFault ports.now) }
 {
-    let mut wires = Vec::new(alloc);
     for place in 0..ports.len() {
-        wires.push(bind_port(rt, clock, alloc, ports, place, sending, startup)?)?;
+        let wire = bind_port(rt, clock, alloc, ports, place, sending, startup)?;
+        wires.push_reserved(wire);
     }
     Ok(wires)
 }
@@ -184,7 +191,16 @@ pub fn bind_lasting<'b, R: Net, C: Clock + Copy + Drop, P: Pace>(
         (vec_len lines.workers < 2 ^ 16 - 1) × (vec_len lines.ports < 2 ^ 16 - 1)) }
 {
     let workers = bind_workers(rt, clock, alloc, &setup.serve, sending, startup, audits)?;
-    let ports = bind_ports(rt, clock, alloc, setup.ports.as_slice(), sending, startup)?;
+    let wires = Vec::with_capacity(alloc, setup.ports.len())?;
+    let ports = bind_ports(
+        rt,
+        clock,
+        alloc,
+        setup.ports.as_slice(),
+        wires,
+        sending,
+        startup,
+    )?;
     let ticker = Paced {
         wire: share_first(ports.as_slice())?,
         pace,
