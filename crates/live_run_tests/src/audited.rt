@@ -11,7 +11,8 @@ use std::io;
 use std::io::{ErrorKind, Write};
 use std::sync::Wait;
 use std::test::Fail;
-use std::time::Clock;
+use std::thread::{self, join};
+use std::time::{Clock, Duration};
 
 // The audit of a request that has no variable bindings.
 fn audit_of_nothing(alloc: Global) -> Audit {
@@ -147,5 +148,24 @@ fn lines_of_a_write_that_fails_are_lost(rt: HostRuntime) -> Result<(), Fail> {
         out.taken.as_slice(),
         &b"0 127.0.0.1:30001 -7 get 0 0 empty\n"[..]
     );
+    Ok(())
+}
+
+// The task that writes waits for lines when none is offered any more.
+#[test]
+fn a_writer_that_waits_ends_at_the_close(rt: HostRuntime) -> Result<(), Fail> {
+    let queue = LineQueue::new(rt.alloc())?;
+    let mut hand = LinesInHand::new(rt.alloc(), false)?;
+    let mut audits = Recorder::failing(rt.alloc(), 0);
+    let mut log = Recorder::failing(rt.alloc(), 0);
+    join(
+        &rt,
+        || write_lines(&rt, rt.alloc(), &queue, &mut hand, &mut audits, &mut log),
+        || {
+            thread::sleep(&rt, Duration::from_millis(200));
+            queue.close(&rt);
+        },
+    );
+    assert_eq!(rt; queue.take_lost_audits(&rt), 0);
     Ok(())
 }
