@@ -6,3 +6,4 @@ pub mod PolicyFaults
 pub mod PortLemmas
 pub mod SubtreeLemmas
 pub mod Without
+pub mod FoundLemmas

@@ -15,3 +15,4 @@ pub mod Rows
 pub mod Shown
 pub mod Sentences
 pub mod Details
+pub mod Warnings

@@ -47,6 +47,8 @@ mod sentences;
 mod serve;
 mod shown;
 mod sockets;
+mod warning;
+mod warnings;
 
 pub use configuration::{BUILT_IN, Configuration, MAX_ROUNDS, MAX_WORKERS, Port, Serve};
 pub use details::sentence_in;
@@ -54,3 +56,5 @@ pub use fault::{ConfigurationFault, PolicyKey, PortKey, ServeKey};
 pub use reading::{configuration_in, configuration_of, configuration_of_text};
 pub use sentences::NO_MEMORY;
 pub use shown::{MAX_MESSAGE_SHOWN, MAX_NAME_SHOWN};
+pub use warning::{PortWarning, RowWarning, Warning};
+pub use warnings::{policy_warnings, warnings_of};
