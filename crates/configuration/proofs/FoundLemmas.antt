@@ -13,7 +13,7 @@ found_next : {W : Type 0} (f : ℕ → Option W) (n : ℕ) →
 found_next f n =
     let m : n + 1 ≡ suc n = omega arith in
     let last : range_with_len 0 (n + 1) ≡ range_with_len 0 n ++ n ∷ [] =
-        ap (range_with_len 0) m ∙ range_last 0 n n (omega arith) in
+    ap (range_with_len 0) m ∙ range_last 0 n n (omega arith) in
     ap (filter_map f) last ∙ filter_map-append f (range_with_len 0 n) (n ∷ [])
 
 -- what was found among the first numbers, and of the next one, is what is found among one more

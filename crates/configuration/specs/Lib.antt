@@ -16,3 +16,4 @@ pub mod Shown
 pub mod Sentences
 pub mod Details
 pub mod Warnings
+pub mod WarningSentences

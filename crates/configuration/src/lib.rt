@@ -48,6 +48,7 @@ mod serve;
 mod shown;
 mod sockets;
 mod warning;
+mod warning_sentences;
 mod warnings;
 
 pub use configuration::{BUILT_IN, Configuration, MAX_ROUNDS, MAX_WORKERS, Port, Serve};
@@ -57,4 +58,5 @@ pub use reading::{configuration_in, configuration_of, configuration_of_text};
 pub use sentences::NO_MEMORY;
 pub use shown::{MAX_MESSAGE_SHOWN, MAX_NAME_SHOWN};
 pub use warning::{PortWarning, RowWarning, Warning};
+pub use warning_sentences::warning_sentence;
 pub use warnings::{policy_warnings, warnings_of};

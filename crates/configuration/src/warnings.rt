@@ -128,7 +128,10 @@ fn is_warned_at(rows: &PolicyRows, warning: RowWarning, n: usize) -> bool
     let access = vacm.access.as_slice().get(n);
     let family = vacm.families.as_slice().get(n);
     match warning {
-        RowWarning::UnknownContext => community.is_some_and(|row| !knows_context(vacm, &row.context)),
+        RowWarning::UnknownContext => community.is_some_and(|row| !knows_context(
+            vacm,
+            &row.context,
+        )),
         RowWarning::NoGroup => community.is_some_and(|row| !has_group(vacm, &row.security)),
         RowWarning::GroupModel => group.is_some_and(has_foreign_model),
         RowWarning::NoAccess => group.is_some_and(|row| !has_access(vacm, &row.group)),
@@ -373,10 +376,7 @@ fn add_all_ports(
 ///
 /// # Errors
 /// `AllocError` where there is no memory for them.
-pub fn warnings_of(
-    alloc: Global,
-    configuration: &Configuration,
-) -> Result<Vec<Warning>, AllocError>
+pub fn warnings_of(alloc: Global, configuration: &Configuration) -> Result<Vec<Warning>, AllocError>
     ensures { IfOk result (λ warnings. warnings.items ≡ warnings_of configuration.now) }
 {
     let mut warnings = policy_warnings(alloc, &configuration.policy)?;
