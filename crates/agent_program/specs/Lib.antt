@@ -2,6 +2,7 @@ pub mod Files
 pub mod Agents
 pub mod Runs
 pub mod Endings
+pub mod Warned
 pub mod Reporting
 pub mod Explanations
 pub mod Commands

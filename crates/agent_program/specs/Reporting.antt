@@ -7,6 +7,7 @@ use Rattle.configuration.specs.declared.fault.ConfigurationFault.{ConfigurationF
 use Rattle.configuration.specs.declared.fault.ConfigurationFault.TheVariants.{Memory}
 use Rattle.configuration.specs.Configurations.{IsConfigurationIn, IsFaultIn}
 use Rattle.configuration.specs.Details.{IsSentenceIn}
+use Rattle.configuration.specs.Warnings.{warnings_of}
 use Rattle.udp_agent.specs.Setups.{IsUnserved}
 use Rattle.udp_agent.specs.declared.setup.Unserved.{Unserved}
 use Rattle.udp_agent.specs.declared.setup.Unserved.TheVariants.{NoServe, NoSockets}
@@ -17,6 +18,7 @@ use Rattle.agent_program.specs.declared.failure.Failure.{Failure}
 use Rattle.agent_program.specs.declared.failure.Failure.TheVariants.{NotText, NoName, CannotRead, TooLarge, Refused, RefusedFor, Input, Output, Unanswered, NotDone, Run as RunFailed}
 use Rattle.agent_program.specs.Endings.{TakesFront}
 use Rattle.agent_program.specs.Files.{IsReadOf}
+use Rattle.agent_program.specs.Warned.{warned_text}
 
 -- what is stated of a configuration: a script can run by it, and it can be served, or why it cannot
 abbrev pub ok_text : Option Unserved → List ℕ
@@ -24,6 +26,12 @@ ok_text None = codes "configuration ok for script and serve\n"
 ok_text (Some NoServe) = codes "configuration ok for script, not for serve: no [serve]\n"
 ok_text (Some NoSockets) =
     codes "configuration ok for script, not for serve: a port without listen or peer\n"
+
+-- This is stated of a configuration: whether it can be served, or why not, and what is warned of in it.
+pub record IsRightText (configuration : Configuration) (text : List ℕ) : Type 0 where
+  pub why : Option Unserved
+  pub unserved : IsUnserved configuration.ports.items configuration.serve why
+  pub is : text ≡ warned_text (ok_text why) (warnings_of configuration)
 
 -- this is stated of a fault of octets: its sentence, as a line
 pub record IsFaultText (octets : List ℕ) (fault : ConfigurationFault) (text : List ℕ) : Type 0 where
@@ -88,14 +96,24 @@ module _ {O : Type 0} (contents : O → Option (List ℕ)) where
     pub found : IsFaultFound octets fault
     pub reported : IsFaultReported octets fault writer writer' failure
 
-  -- the octets are a configuration, and that is reported, and whether it can be served, whole or until
-  -- the output failed
+  -- the text on a configuration was written, whole or until the output failed
+  pub record IsRightWritten (configuration : Configuration) (writer writer' : O) (ended : Result (Unit {0}) Failure) : Type 0 where
+    pub text : List ℕ
+    pub of : IsRightText configuration text
+    pub wrote : IsReported text writer writer' ended
+
+  -- A configuration was reported; or there was no memory for its warnings, and nothing was written.
+  abbrev pub IsConfigurationReported : Configuration → O → O → Result (Unit {0}) Failure → Type 0
+  IsConfigurationReported configuration writer writer' (Ok done) =
+      IsRightWritten configuration writer writer' (Ok done)
+  IsConfigurationReported configuration writer writer' (Err failure) =
+      IsRightWritten configuration writer writer' (Err failure) ⊎ ((failure ≡ RunFailed) × (writer' ≡ writer))
+
+  -- the octets are a configuration, and that is reported
   pub record IsRightReported (octets : List ℕ) (writer writer' : O) (ended : Result (Unit {0}) Failure) : Type 0 where
     pub configuration : Configuration
     pub stated : IsConfigurationIn octets configuration
-    pub why : Option Unserved
-    pub unserved : IsUnserved configuration.ports.items configuration.serve why
-    pub reported : IsReported (ok_text why) writer writer' ended
+    pub reported : IsConfigurationReported configuration writer writer' ended
 
   -- What a check of octets amounts to.
   abbrev pub IsChecked : List ℕ → O → O → Result (Unit {0}) Failure → Type 0

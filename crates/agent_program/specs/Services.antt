@@ -1,8 +1,9 @@
 -- What the octets of a configuration give to be served.
-use Rattle.std.specs.Prelude.{◌≡◌, ◌⊎◌, ℕ, List, Option, Some, Result, Ok, Err}
+use Rattle.std.specs.Prelude.{◌≡◌, ◌⊎◌, ℕ, List, Option, Some, IfSome, Result, Ok, Err}
 use Rattle.policy_text.specs.Texts.{HasContent}
 use Rattle.configuration.specs.declared.configuration.Configuration.{Configuration}
 use Rattle.configuration.specs.Configurations.{IsConfigurationIn, IsFaultIn}
+use Rattle.configuration.specs.Warnings.{warnings_of}
 use Rattle.setphase_core.specs.Objects.{ObjectState}
 use Rattle.udp_agent.specs.Setups.{IsSetup, IsUnserved}
 use Rattle.udp_agent.specs.declared.setup.Unserved.{Unserved as UnservedCause}
@@ -18,13 +19,15 @@ use Rattle.agent_program.specs.Files.{IsReadOf}
 use Rattle.agent_program.specs.Endings.{read_failure}
 use Rattle.agent_program.specs.Refusals.{FailsBy}
 
--- The octets say a configuration; this is the world that it opens, and the setup that it says.
+-- The octets say a configuration; this is the world that it opens, the setup that it says, and what is
+-- warned of in it, unless there was no memory for that.
 pub record IsOpened (octets : List ℕ) (opened : Opened) : Type 0 where
   pub configuration : Configuration
   pub stated : IsConfigurationIn octets configuration
   pub world_is : opened.world ≡ world_of configuration
   pub setup_is : IsSetup configuration.address configuration.ports.items configuration.serve
       opened.setup
+  pub warned : IfSome opened.warnings (λ warnings. warnings.items ≡ warnings_of configuration)
 
 -- The octets say a configuration by which nothing can be served, for this reason: it does not say how,
 -- or of a port not where its frames come in and go out.

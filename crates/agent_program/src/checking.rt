@@ -1,11 +1,14 @@
 //! Reports whether octets are a configuration, and whether it can be served.
 ghost use Rattle.std.specs.Prelude.{◌≡◌, IfOk, string_bytes};
-ghost use Rattle.agent_program.specs.Reporting.{ok_text, IsFaultText, IsFaultReported, IsChecked, IsFileChecked};
+ghost use Rattle.agent_program.specs.Reporting.{ok_text, IsRightText, IsConfigurationReported, IsFaultText, IsFaultReported, IsChecked, IsFileChecked};
 ghost use Rattle.agent_program.specs.Files.{read_view};
 
 use crate::failure::{Failure, write_out};
 use crate::files::NotRead;
-use configuration::{ConfigurationFault, configuration_in, sentence_in};
+use crate::warned::warned_text;
+use configuration::{
+    Configuration, ConfigurationFault, configuration_in, sentence_in, warnings_of,
+};
 use std::alloc::{AllocError, Global};
 use std::io::Write;
 use udp_agent::{Unserved, setup_of};
@@ -56,13 +59,41 @@ fn report_fault<'a, O: Write>(
     }
 }
 
+// What is stated of a configuration: whether it can be served, or why not, and behind that its warnings.
+fn right_text(alloc: Global, configuration: &Configuration) -> Result<Vec<u8>, AllocError>
+    ensures { IfOk result (λ text. IsRightText configuration.now text.items) }
+{
+    let setup = setup_of(
+        configuration.address,
+        &configuration.ports,
+        configuration.serve,
+    );
+    let warnings = warnings_of(alloc, configuration)?;
+    warned_text(alloc, ok_text(setup.err()), warnings.as_slice())
+}
+
+// Reports a configuration, or that there was no memory for its warnings.
+fn report_right<'a, O: Write>(
+    alloc: Global,
+    configuration: &Configuration,
+    writer: &mut O,
+) -> Result<(), Failure<'a>>
+    ensures { IsConfigurationReported O.contents configuration.now writer.old writer.new result }
+{
+    match right_text(alloc, configuration) {
+        Ok(text) => write_out(&text, writer),
+        Err(_) => Err(Failure::Run),
+    }
+}
+
 /// Reports whether octets are a configuration: `configuration ok for script`, with whether it can be
-/// served, or why not, or its first fault in one sentence.
+/// served, or why not, and behind that a line for each of its warnings; or its first fault in one
+/// sentence.
 ///
 /// # Errors
 /// `Refused` where they are none, or where there is no memory to read them, and the sentence is
 /// written; `Output` where a write fails; `Run`, with nothing written, where there is no memory for
-/// the sentence.
+/// the sentence or for the warnings.
 pub fn check_octets<'a, O: Write>(
     alloc: Global,
     octets: &[u8],
@@ -71,14 +102,7 @@ pub fn check_octets<'a, O: Write>(
     ensures { IsChecked O.contents octets.now writer.old writer.new result }
 {
     match configuration_in(alloc, octets) {
-        Ok(configuration) => {
-            let setup = setup_of(
-                configuration.address,
-                &configuration.ports,
-                configuration.serve,
-            );
-            write_out(ok_text(setup.err()), writer)
-        }
+        Ok(configuration) => report_right(alloc, &configuration, writer),
         Err(fault) => Err(report_fault(alloc, octets, fault, writer)),
     }
 }

@@ -11,6 +11,7 @@
 //! script over objects by the octets of a configuration, and refuses octets that say none, or objects
 //! that make no registry, before it reads or writes; [`NotRun`] says why there was no run to the end.
 //! [`check_octets`] reports whether octets are one, [`check_read`] whether what was read of a file is.
+//! [`warned_text`] is a line and behind it the warnings of a configuration, [`log_warnings`] logs them.
 //! [`open_service`] gives what octets say is to be served, [`serve_opened`] serves it for its rounds,
 //! and [`serve_opened_forever`] without an end. [`collect_words`] has the words of a command line as
 //! a list. [`report`] writes the line of a [`Failure`], and behind it a second of a file that cannot be read, has too
@@ -21,7 +22,7 @@
 //! configuration opens; `specs/Runs.antt`: what a run by octets promises; `specs/Services.antt`: what
 //! they give to be served; `specs/Endings.antt`: statuses, and the lines of each failure;
 //! `specs/Refusals.antt`: why octets were not run or served, as a failure;
-//! `specs/Reporting.antt`: what a check reports; `specs/Explanations.antt`: what is written of the decision on
+//! `specs/Reporting.antt`: what a check reports; `specs/Warned.antt`: what is written of warnings; `specs/Explanations.antt`: what is written of the decision on
 //! a request; `specs/Commands.antt`: what is done to have a served agent do a command;
 //! `specs/Programs.antt`: what the program does for what is asked. What words ask for
 //! stands in `agent_words`.
@@ -32,7 +33,7 @@
 //! # Not claimed
 //! That a read or a write failed where a run is reported to have ended so, or where the line of a failure
 //! is reported to be cut off. That memory was refused where the answer is for want of it. Whether sockets
-//! can be bound. What a file of the system holds. That the caller serves what is left to be served.
+//! can be bound. What is logged of warnings. What a file of the system holds. That the caller serves what is left to be served.
 #![tactic(auto)]
 
 mod checking;
@@ -46,6 +47,7 @@ mod reporting;
 mod run;
 mod running;
 mod serving;
+mod warned;
 
 pub use checking::{check_octets, check_read};
 pub use collecting::collect_words;
@@ -57,3 +59,4 @@ pub use reporting::NotTaken;
 pub use run::run_asked;
 pub use running::run_octets;
 pub use serving::{Opened, open_service, serve_opened, serve_opened_forever};
+pub use warned::{log_warnings, warned_text};

@@ -9,6 +9,7 @@ ghost use Rattle.udp_agent.specs.Lasting.{IsServedForever};
 ghost use Rattle.agent_program.specs.Services.{IsOpened, IsNotSetUp, IsServiceBy};
 
 use crate::opening::{NotRun, open_bridge, read_configuration, registry_of, undropped};
+use configuration::{Warning, warnings_of};
 use control_socket::ControlSocket;
 use history_core::Kept;
 use live_agent::{End, GatedWire, PacedWire};
@@ -37,6 +38,8 @@ pub struct Opened {
     pub world: World,
     /// Where it is served, and how many rounds its lines make.
     pub setup: Setup,
+    /// What is warned of in its configuration; none where there was no memory to find that.
+    pub warnings: Option<Vec<Warning>>,
 }
 
 /// Opens what the configuration that octets say is to serve.
@@ -49,6 +52,7 @@ pub fn open_setup(alloc: Global, octets: &[u8]) -> Result<Opened, NotRun>
 {
     let configuration = read_configuration(alloc, octets)?;
     let bridge = open_bridge(alloc, &configuration);
+    let warnings = warnings_of(alloc, &configuration).ok();
     match setup_of(
         configuration.address,
         &configuration.ports,
@@ -57,6 +61,7 @@ pub fn open_setup(alloc: Global, octets: &[u8]) -> Result<Opened, NotRun>
         Ok(setup) => Ok(Opened {
             world: undropped(bridge, configuration.policy),
             setup,
+            warnings,
         }),
         Err(why) => Err(NotRun::Unserved(why)),
     }

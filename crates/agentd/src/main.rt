@@ -24,8 +24,8 @@
 ghost use Rattle.std.specs.Thread.{IsSend};
 
 use agent_program::{
-    AskAgent, Failure, Opened, ReadFile, SystemFiles, collect_words, end_answered, report,
-    run_asked, serve_opened, serve_opened_forever,
+    AskAgent, Failure, Opened, ReadFile, SystemFiles, collect_words, end_answered, log_warnings,
+    report, run_asked, serve_opened, serve_opened_forever,
 };
 use agent_words::{Asked, Lasting, VERSION, asks_to_serve, read_words};
 use bridge_mib::{Planned, PortEnable, Steady};
@@ -301,8 +301,8 @@ where
     served
 }
 
-// Serves without an end, with a control socket at this path, if there is one, and logs how the lines go on,
-// or why nothing was served.
+// Serves without an end, with a control socket at this path, if there is one, and logs first what is warned of
+// in the configuration, then how the lines go on, or why nothing was served.
 fn serve_bound<'r, M, G, R>(
     rt: &'r R,
     log: &'r G,
@@ -318,6 +318,7 @@ where
     G: Log + Sync,
     R: Threads + Wait + Net + Files + Clock + Sync,
 {
+    log_warnings(log, alloc, opened.warnings.as_deref());
     match bind_path(rt, path, startup) {
         Ok(control) => serve_forever(rt, log, alloc, registry, opened, audits, control, startup),
         Err(why) => not_begun(log, &why),

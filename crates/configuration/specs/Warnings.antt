@@ -178,7 +178,7 @@ same_address (Some a) (Some b) = same_socket a b
 same_address (Some a) None = false
 same_address None b = false
 
--- what a second port has in common with a first, by what is looked at
+-- two ports have in common what is compared
 abbrev pub shares : PortCheck → Port → Port → Bool
 shares check.Ifindex a b = a.config.ifindex == b.config.ifindex
 shares check.Listen a b = same_address a.listen b.listen
@@ -188,11 +188,11 @@ shares check.PeerPort a b = false
 
 -- the first port above this one that shares it
 abbrev pub first_of : PortCheck → List Port → ℕ → Option Port → Option ℕ
-first_of looks ports n (Some port) = position (shares looks port) (take n ports)
-first_of looks ports n None = None
+first_of which ports n (Some port) = position (shares which port) (take n ports)
+first_of which ports n None = None
 
 abbrev pub first_sharing : PortCheck → List Port → ℕ → Option ℕ
-first_sharing looks ports n = first_of looks ports n (slice_get ports n)
+first_sharing which ports n = first_of which ports n (slice_get ports n)
 
 -- its frames come in where requests do
 abbrev pub listens_at : Option Serve → Port → Bool
@@ -203,7 +203,7 @@ abbrev pub is_port_0 : Option SocketAddr → Bool
 is_port_0 (Some address) = socket_port address == 0
 is_port_0 None = false
 
--- what the port of this number is warned of, by what is looked at
+-- what the port of this number is warned of, by one check
 abbrev pub port_warning : List Port → Option Serve → PortCheck → ℕ → Option PortWarning
 port_warning ports serve check.Ifindex n = option_map port.SameIfindex (first_sharing check.Ifindex ports n)
 port_warning ports serve check.Listen n = option_map port.SameListen (first_sharing check.Listen ports n)
@@ -214,12 +214,12 @@ port_warning ports serve check.PeerPort n =
     if holds_at (λ p. is_port_0 p.peer) ports n then Some port.PeerPortZero else None
 
 abbrev pub warning_of_port : List Port → Option Serve → PortCheck → ℕ → Option Warning
-warning_of_port ports serve looks n = option_map (λ w. OfPort w n) (port_warning ports serve looks n)
+warning_of_port ports serve which n = option_map (λ w. OfPort w n) (port_warning ports serve which n)
 
--- all ports that are warned of by what is looked at, in their order
+-- all ports that are warned of by one check, in their order
 abbrev pub port_warnings : List Port → Option Serve → PortCheck → List Warning
-port_warnings ports serve looks =
-    filter_map (warning_of_port ports serve looks) (range_with_len 0 (length ports))
+port_warnings ports serve which =
+    filter_map (warning_of_port ports serve which) (range_with_len 0 (length ports))
 
 abbrev pub all_port_checks : List PortCheck
 all_port_checks = check.Ifindex ∷ check.Listen ∷ check.Peer ∷ check.Snmp ∷ check.PeerPort ∷ []

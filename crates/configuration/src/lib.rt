@@ -8,7 +8,9 @@
 //! that a stranger wrote and of what TOML's reader says has [`MAX_NAME_SHOWN`] and
 //! [`MAX_MESSAGE_SHOWN`] octets at most. A [`Configuration`] has its [`Port`]s, and a [`Serve`] where it says how to
 //! serve; a [`ConfigurationFault`] is a first fault, some by a [`PortKey`], a [`ServeKey`] or a
-//! [`PolicyKey`]. [`BUILT_IN`] is the text where none is given; [`MAX_WORKERS`] and [`MAX_ROUNDS`]
+//! [`PolicyKey`]. [`warnings_of`] gives what is warned of in a configuration that is right, and [`policy_warnings`]
+//! that of a policy alone: each [`Warning`] names a row and its [`RowWarning`], or a port and its
+//! [`PortWarning`]; [`warning_sentence`] is what an operator reads of it. [`BUILT_IN`] is the text where none is given; [`MAX_WORKERS`] and [`MAX_ROUNDS`]
 //! bound what serves.
 //!
 //! # Definitions
@@ -19,14 +21,16 @@
 //! of its configuration; `specs/Bounds.antt`: the bounds of each; `specs/Lines.antt`: the lines of
 //! a text; `specs/Sentences.antt`: the text of each fault by itself; `specs/Details.antt`: that by the
 //! text it is in, for which `specs/AddressFaults.antt`, `specs/KnownKeys.antt` and `specs/Rows.antt` say
-//! which key is wrong or unknown; `specs/Shown.antt`: how a stranger's text is printed.
+//! which key is wrong or unknown; `specs/Shown.antt`: how a stranger's text is printed;
+//! `specs/Warnings.antt`: what is warned of, and `specs/WarningSentences.antt`: the text of each warning.
 //!
 //! # Laws
 //! In [`laws`]: a table that says a configuration has no fault; a configuration is one that a
 //! bridge can have; the limits are what they are.
 //!
 //! # Not claimed
-//! That memory is there; TOML and the texts of socket addresses, whose readers are the kit's; which
+//! That memory is there; how long it takes to find what is warned of: each row is compared with the rows of
+//! another table, each port with all others; TOML and the texts of socket addresses, whose readers are the kit's; which
 //! line is reported of a text that is no TOML, and what was expected there: it is one of the text's, and
 //! tests hold which, and what.
 #![tactic(auto)]

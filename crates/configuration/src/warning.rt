@@ -47,7 +47,7 @@ pub enum PortWarning {
     PeerPortZero,
 }
 
-/// What is looked at of a port.
+/// A check of a port.
 #[derive(Clone, Copy, Debug, PartialEq, Eq)]
 pub enum PortCheck {
     /// Whether its `ifindex` is that of a port above.
@@ -88,7 +88,7 @@ pub const ROW_WARNINGS: [RowWarning; 10] = [
     RowWarning::UnusedView,
 ];
 
-/// What is looked at of a port, in the order in which it is reported.
+/// The checks of a port, in the order in which they are reported.
 pub const PORT_CHECKS: [PortCheck; 5] = [
     PortCheck::Ifindex,
     PortCheck::Listen,

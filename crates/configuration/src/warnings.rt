@@ -259,11 +259,11 @@ fn same_socket(one: SocketAddr, other: SocketAddr) -> bool
     one == other && one.port() != 0
 }
 
-// Whether a port shares with another what is looked at.
-fn shares(looks: PortCheck, port: &Port, other: &Port) -> bool
-    ensures { result ≡ shares looks port.now other.now }
+// Whether a port shares with another what is compared.
+fn shares(check: PortCheck, port: &Port, other: &Port) -> bool
+    ensures { result ≡ shares check port.now other.now }
 {
-    match looks {
+    match check {
         PortCheck::Ifindex => port.config.ifindex.number() == other.config.ifindex.number(),
         PortCheck::Listen => same_address(port.listen, other.listen),
         PortCheck::Peer => same_address(port.peer, other.peer),
@@ -271,19 +271,19 @@ fn shares(looks: PortCheck, port: &Port, other: &Port) -> bool
     }
 }
 
-// The number of the first of these ports that shares with a port what is looked at.
-fn first_alike(looks: PortCheck, port: &Port, ports: &[Port]) -> Option<usize>
-    ensures { result ≡ position (shares looks port.now) ports.now }
+// The number of the first of these ports that shares with a port what is compared.
+fn first_alike(check: PortCheck, port: &Port, ports: &[Port]) -> Option<usize>
+    ensures { result ≡ position (shares check port.now) ports.now }
 {
-    ports.iter().position(|other| shares(looks, port, other))
+    ports.iter().position(|other| shares(check, port, other))
 }
 
-// The number of the first port above this one that shares with it what is looked at.
-fn first_sharing(looks: PortCheck, ports: &[Port], n: usize) -> Option<usize>
-    ensures { result ≡ first_sharing looks ports.now n }
+// The number of the first port above this one that shares with it what is compared.
+fn first_sharing(check: PortCheck, ports: &[Port], n: usize) -> Option<usize>
+    ensures { result ≡ first_sharing check ports.now n }
 {
     let port = ports.get(n)?;
-    first_alike(looks, port, &ports[..n])
+    first_alike(check, port, &ports[..n])
 }
 
 // Whether the frames of a port come in where requests do.
@@ -306,54 +306,54 @@ fn is_port_0(address: Option<SocketAddr>) -> bool
     }
 }
 
-// What the port of a number is warned of, by what is looked at.
+// What the port of a number is warned of, by one check.
 fn port_warning(
     ports: &[Port],
     serve: Option<Serve>,
-    looks: PortCheck,
+    check: PortCheck,
     n: usize,
 ) -> Option<PortWarning>
-    ensures { result ≡ port_warning ports.now serve looks n }
+    ensures { result ≡ port_warning ports.now serve check n }
 {
-    match looks {
-        PortCheck::Ifindex => Some(PortWarning::SameIfindex(first_sharing(looks, ports, n)?)),
-        PortCheck::Listen => Some(PortWarning::SameListen(first_sharing(looks, ports, n)?)),
-        PortCheck::Peer => Some(PortWarning::SamePeer(first_sharing(looks, ports, n)?)),
+    match check {
+        PortCheck::Ifindex => Some(PortWarning::SameIfindex(first_sharing(check, ports, n)?)),
+        PortCheck::Listen => Some(PortWarning::SameListen(first_sharing(check, ports, n)?)),
+        PortCheck::Peer => Some(PortWarning::SamePeer(first_sharing(check, ports, n)?)),
         PortCheck::Snmp if listens_at(serve, ports.get(n)?) => Some(PortWarning::ListenIsSnmp),
         PortCheck::PeerPort if is_port_0(ports.get(n)?.peer) => Some(PortWarning::PeerPortZero),
         PortCheck::Snmp | PortCheck::PeerPort => None,
     }
 }
 
-// The warning of the port of a number, by what is looked at.
+// The warning of the port of a number, by one check.
 fn warning_of_port(
     ports: &[Port],
     serve: Option<Serve>,
-    looks: PortCheck,
+    check: PortCheck,
     n: usize,
 ) -> Option<Warning>
-    ensures { result ≡ warning_of_port ports.now serve looks n }
+    ensures { result ≡ warning_of_port ports.now serve check n }
 {
-    Some(Warning::Port(port_warning(ports, serve, looks, n)?, n))
+    Some(Warning::Port(port_warning(ports, serve, check, n)?, n))
 }
 
-// Adds the ports that are warned of by what is looked at.
+// Adds the ports that are warned of by one check.
 fn add_ports(
     ports: &[Port],
     serve: Option<Serve>,
-    looks: PortCheck,
+    check: PortCheck,
     warnings: &mut Vec<Warning>,
 ) -> Result<(), AllocError>
     ensures { OnOk result (warnings.new.items ≡ warnings.old.items
-        ++ port_warnings ports.now serve looks) }
+        ++ port_warnings ports.now serve check) }
 {
     for n in 0..ports.len() {
-        add(warnings, warning_of_port(ports, serve, looks, n))?;
+        add(warnings, warning_of_port(ports, serve, check, n))?;
     }
     Ok(())
 }
 
-// Adds the ports that are warned of by what is looked at, one after the other.
+// Adds the ports that are warned of by these checks, one after the other.
 fn add_all_ports(
     ports: &[Port],
     serve: Option<Serve>,
@@ -363,8 +363,8 @@ fn add_all_ports(
     ensures { OnOk result (warnings.new.items ≡ warnings.old.items
         ++ flat_map (port_warnings ports.now serve) checks.now) }
 {
-    for looks in checks {
-        add_ports(ports, serve, *looks, warnings)?;
+    for check in checks {
+        add_ports(ports, serve, *check, warnings)?;
     }
     Ok(())
 }

@@ -4,4 +4,4 @@ use Rattle.configuration.proofs.warnings.add_ports.Goals as goal
 
 pub loop-n-preserved : goal.loop-n-preserved
 loop-n-preserved c =
-    found_step (warning_of_port c.args.ports.now c.args.serve c.args.looks) _ _ _ c.loop-n.n _ c.loop-n.invariant c.warning_of_port.ensures c.in_ok-add.ensures
+    found_step (warning_of_port c.args.ports.now c.args.serve c.args.check) _ _ _ c.loop-n.n _ c.loop-n.invariant c.warning_of_port.ensures c.in_ok-add.ensures
