@@ -1,10 +1,12 @@
 -- What the program does with a file, by what was read of it.
 use Rattle.std.proofs.Common.{ℕ, List, Option, Result, Vec}
+use Rattle.std.specs.Borrow.{Bor}
 use Rattle.std.specs.declared.alloc.Global.{Global}
 use Rattle.setphase_core.specs.Objects.{ObjectState}
 use Rattle.agent_program.specs.declared.files.FileLimit.{FileLimit}
 use Rattle.agent_program.specs.declared.files.FileLimit.TheVariants.{Configuration, Policy}
 use Rattle.agent_program.specs.declared.files.NotRead.{NotRead}
+use Rattle.agent_program.specs.declared.answering.NoAnswer.{NoAnswer}
 use Rattle.agent_program.specs.declared.failure.Failure.{Failure}
 use Rattle.agent_words.specs.declared.asked.Lasting.{Lasting}
 use Rattle.agent_program.specs.Files.{IsReadWithin, IsReadOf, read_view}
@@ -49,13 +51,13 @@ file_explained Gives contents request file read writer writer' ended within gave
     record { read = read_view read; is = read_of Gives Configuration file read within gave; explains = explains }
 
 pub file_sent : {O : Type 0} (Gives : List ℕ → Result (List ℕ) NotRead → Type 0)
-    (Answers : List ℕ → List ℕ → Option (List ℕ) → Type 0) (contents : O → Option (List ℕ))
-    (path file : List ℕ) (read : Result (Vec ℕ Global) NotRead) (writer writer' : O)
-    (ended : Result (Unit {0}) Failure) → IsReadWithin file Policy (read_view read)
-    → Gives file (read_view read) → SendsRead Answers contents path (read_view read) writer writer' ended
+    (Answers : List ℕ → List ℕ → Result (List ℕ) NoAnswer → Type 0) (contents : O → Option (List ℕ))
+    (path file : Bor (List ℕ)) (read : Result (Vec ℕ Global) NotRead) (writer writer' : O)
+    (ended : Result (Unit {0}) Failure) → IsReadWithin file.now Policy (read_view read)
+    → Gives file.now (read_view read) → SendsRead Answers contents path file (read_view read) writer writer' ended
     → SendsFile Gives Answers contents path file writer writer' ended
 file_sent Gives Answers contents path file read writer writer' ended within gave sends =
-    record { read = read_view read; is = read_of Gives Policy file read within gave; sends = sends }
+    record { read = read_view read; is = read_of Gives Policy file.now read within gave; sends = sends }
 
 pub file_served : (Gives : List ℕ → Result (List ℕ) NotRead → Type 0) (objects : List ObjectState)
     (lasting : Lasting) (file : List ℕ) (read : Result (Vec ℕ Global) NotRead)

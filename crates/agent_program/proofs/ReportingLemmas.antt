@@ -2,7 +2,7 @@
 use Rattle.std.proofs.Common.{ℕ, List, Option}
 use Rattle.configuration.specs.declared.fault.ConfigurationFault.{ConfigurationFault}
 use Rattle.agent_program.specs.declared.failure.Failure.{Failure}
-use Rattle.agent_program.specs.declared.failure.Failure.TheVariants.{NotText, NoName, CannotRead, TooLarge, Refused, RefusedFor, Input, Output, Unanswered, NotDone, Run as RunFailed}
+use Rattle.agent_program.specs.declared.failure.Failure.TheVariants.{NotText, NoName, CannotRead, TooLarge, Refused, RefusedFor, Input, Output, Unanswered, NotDone, PolicyNotDone, Run as RunFailed}
 use Rattle.agent_program.specs.Reporting.{IsFaultText, IsCutOff, IsFaultReported}
 
 -- a sentence that was cut off
@@ -16,6 +16,7 @@ cut_reported contents octets fault text writer writer' Refused stated cut = absu
 cut_reported contents octets fault text writer writer' (RefusedFor file refusal) stated cut = absurd cut
 cut_reported contents octets fault text writer writer' Input stated cut = absurd cut
 cut_reported contents octets fault text writer writer' Output stated cut = record { text = text; on_fault = stated; wrote = cut }
-cut_reported contents octets fault text writer writer' Unanswered stated cut = absurd cut
-cut_reported contents octets fault text writer writer' NotDone stated cut = absurd cut
+cut_reported contents octets fault text writer writer' (Unanswered path why) stated cut = absurd cut
+cut_reported contents octets fault text writer writer' (NotDone why) stated cut = absurd cut
+cut_reported contents octets fault text writer writer' (PolicyNotDone file refusal) stated cut = absurd cut
 cut_reported contents octets fault text writer writer' RunFailed stated cut = absurd cut

@@ -1,13 +1,25 @@
 -- What the program does to have a served agent do a command.
-use Rattle.std.specs.Prelude.{◌≡◌, ◌⊎◌, ℕ, Bool, true, false, codes, if◌then◌else◌, List, [], ◌∷◌, Option, Some, None, Result, Ok, Err}
+use Rattle.std.specs.Prelude.{◌≡◌, ◌⊎◌, ℕ, Bool, true, false, codes, if◌then◌else◌, List, [], ◌∷◌, Option, Some, None, Result, Ok, Err, Vec}
+use Rattle.std.specs.Borrow.{Bor}
+use Rattle.std.specs.declared.alloc.Global.{Global}
+use Rattle.agent_words.specs.declared.asked.Order.{Order}
+use Rattle.agent_words.specs.declared.asked.Order.TheVariants.{Counts, Link, Policy}
 use Rattle.agent_words.specs.Orders.{Command, counts, link, policy}
-use Rattle.control_socket.specs.Sent.{link_octets, policy_octets, is_refusal}
+use Rattle.configuration.specs.PolicyFiles.{IsPartIn}
+use Rattle.control_socket.specs.Sent.{link_octets, policy_octets}
 use Rattle.agent_program.specs.declared.files.FileLimit.TheVariants as limit
 use Rattle.agent_program.specs.declared.files.NotRead.{NotRead}
 use Rattle.agent_program.specs.declared.files.NotRead.TheVariants.{Memory as FileMemory, Unreadable, TooLarge as FileTooLarge}
+use Rattle.agent_program.specs.declared.answering.NoAnswer.{NoAnswer}
+use Rattle.agent_program.specs.declared.answering.NoAnswer.TheVariants.{Ended}
+use Rattle.agent_program.specs.declared.answering.Undone.{Undone}
+use Rattle.agent_program.specs.declared.answering.Undone.TheVariants as undone
+use Rattle.agent_program.specs.declared.failure.Refusal.{Refusal}
 use Rattle.agent_program.specs.declared.failure.Failure.{Failure}
-use Rattle.agent_program.specs.declared.failure.Failure.TheVariants.{CannotRead, TooLarge, Unanswered, NotDone, Run as RunFailed}
+use Rattle.agent_program.specs.declared.failure.Failure.TheVariants.{CannotRead, TooLarge, Unanswered, NotDone, PolicyNotDone, Run as RunFailed}
+use Rattle.agent_program.specs.Answering.{undone_by}
 use Rattle.agent_program.specs.Files.{IsReadOf}
+use Rattle.agent_program.specs.Refusals.{IsPolicyRefusal}
 use Rattle.agent_program.specs.Reporting.{IsReported}
 
 -- why there is no command by a file: there was no memory for its octets, it cannot be read, or it has too
@@ -17,70 +29,117 @@ policy_failure (FileMemory file) = RunFailed
 policy_failure (Unreadable file reason) = CannotRead file reason
 policy_failure (FileTooLarge file limit) = TooLarge file limit
 
--- how the program ends behind an answer that was printed so: an answer that refuses the command is a
--- failure
-abbrev pub answered_end : List ℕ → Result (Unit {0}) Failure → Result (Unit {0}) Failure
-answered_end answer (Ok done) = if is_refusal answer then Err NotDone else Ok done
-answered_end answer (Err failure) = Err failure
+-- how the program ends behind an answer to a command that was printed so: an answer that refuses the
+-- command is a failure
+abbrev pub refused_end : Option Undone → Result (Unit {0}) Failure → Result (Unit {0}) Failure
+refused_end None printed = printed
+refused_end (Some why) (Ok done) = Err (NotDone why)
+refused_end (Some why) (Err failure) = Err failure
 
 -- An answer without octets is one only to a command that may be answered so.
-abbrev pub heard : Bool → Option (List ℕ) → Option (List ℕ)
-heard may_be_empty None = None
-heard may_be_empty (Some []) = if may_be_empty then Some [] else None
-heard may_be_empty (Some (octet ∷ octets)) = Some (octet ∷ octets)
+abbrev pub heard : Bool → Result (List ℕ) NoAnswer → Result (List ℕ) NoAnswer
+heard may_be_empty (Err why) = Err why
+heard may_be_empty (Ok []) = if may_be_empty then Ok [] else Err Ended
+heard may_be_empty (Ok (octet ∷ octets)) = Ok (octet ∷ octets)
+
+-- the octets alone
+abbrev pub answer_view : Result (Vec ℕ Global) NoAnswer → Result (List ℕ) NoAnswer
+answer_view (Ok octets) = Ok octets.items
+answer_view (Err why) = Err why
 
 -- A writer that may report which octets it took.
 module _ {O : Type 0} (contents : O → Option (List ℕ)) where
-  -- an answer was printed, whole or until the output failed, and the program ended so
-  pub record IsPrinted (answer : List ℕ) (writer writer' : O) (ended : Result (Unit {0}) Failure)
-      : Type 0 where
+  -- an answer to a command was printed, whole or until the output failed, and the program ended so
+  pub record IsPrinted (command : Command) (answer : List ℕ) (writer writer' : O)
+      (ended : Result (Unit {0}) Failure) : Type 0 where
     pub printed : Result (Unit {0}) Failure
     pub reported : IsReported contents answer writer writer' printed
-    pub is : ended ≡ answered_end answer printed
+    pub is : ended ≡ refused_end (undone_by command answer) printed
 
-  -- how the program ends by what is answered, if anything is: without an answer nothing is written
-  abbrev pub EndsBy : Option (List ℕ) → O → O → Result (Unit {0}) Failure → Type 0
-  EndsBy None writer writer' ended = (ended ≡ Err Unanswered) × (writer' ≡ writer)
-  EndsBy (Some answer) writer writer' ended = IsPrinted answer writer writer' ended
+  -- how the program ends by what the agent of a path answers to a command: without an answer nothing is
+  -- written
+  abbrev pub EndsBy : Bor (List ℕ) → Command → Result (List ℕ) NoAnswer → O → O
+      → Result (Unit {0}) Failure → Type 0
+  EndsBy path command (Err why) writer writer' ended =
+      (ended ≡ Err (Unanswered path why)) × (writer' ≡ writer)
+  EndsBy path command (Ok answer) writer writer' ended = IsPrinted command answer writer writer' ended
+
+-- what is sent of the octets of a policy's file: the policy of a configuration alone, else all of them
+abbrev pub part_or : List ℕ → Option (List ℕ) → List ℕ
+part_or text None = text
+part_or text (Some part) = part
+
+-- the octets of the command for the policy of a file
+abbrev pub IsPolicyCommand : List ℕ → List ℕ → Type 0
+IsPolicyCommand text octets =
+    (part : Option (List ℕ)) × IsPartIn text part × (octets ≡ policy_octets (part_or text part))
+
+-- how the program ends behind the answer to a policy of these octets of a file: where the answer refuses
+-- it, with the reason that the octets have
+abbrev pub IsPolicyFailure : Bor (List ℕ) → List ℕ → Failure → Failure → Type 0
+IsPolicyFailure file text (NotDone undone.Policy) failure =
+    (refusal : Refusal) × IsPolicyRefusal text refusal × (failure ≡ PolicyNotDone file refusal)
+IsPolicyFailure file text answered failure = failure ≡ answered
+
+abbrev pub IsPolicyEnd : Bor (List ℕ) → List ℕ → Result (Unit {0}) Failure
+    → Result (Unit {0}) Failure → Type 0
+IsPolicyEnd file text (Ok done) ended = ended ≡ Ok done
+IsPolicyEnd file text (Err answered) ended =
+    (failure : Failure) × IsPolicyFailure file text answered failure × (ended ≡ Err failure)
+
+-- Whether a command may be answered without octets: a link may, by which no port sends.
+abbrev pub may_be_empty : Command → Bool
+may_be_empty (link port up) = true
+may_be_empty counts = false
+may_be_empty (policy file) = false
 
 -- Beside it an agent, by what it may answer at the control socket of a path to octets.
-module _ {O : Type 0} (Answers : List ℕ → List ℕ → Option (List ℕ) → Type 0)
+module _ {O : Type 0} (Answers : List ℕ → List ℕ → Result (List ℕ) NoAnswer → Type 0)
     (contents : O → Option (List ℕ)) where
-  -- the program ended by an answer to exactly these octets
-  pub record IsSent (may_be_empty : Bool) (path octets : List ℕ) (writer writer' : O)
+  -- the program ended by an answer to exactly these octets of a command
+  pub record IsSent (path : Bor (List ℕ)) (command : Command) (octets : List ℕ) (writer writer' : O)
       (ended : Result (Unit {0}) Failure) : Type 0 where
-    pub answer : Option (List ℕ)
-    pub gave : Answers path octets answer
-    pub ends : EndsBy contents (heard may_be_empty answer) writer writer' ended
+    pub answer : Result (List ℕ) NoAnswer
+    pub gave : Answers path.now octets answer
+    pub ends : EndsBy contents path command (heard (may_be_empty command) answer) writer writer' ended
 
-  -- the same, or there was no memory for them, and nothing was written
-  abbrev pub Sends : Bool → List ℕ → List ℕ → O → O → Result (Unit {0}) Failure → Type 0
-  Sends may_be_empty path octets writer writer' ended =
-      IsSent may_be_empty path octets writer writer' ended
-      ⊎ ((ended ≡ Err RunFailed) × (writer' ≡ writer))
+  -- there was no memory for the command, and nothing was written
+  abbrev pub IsNotMade : O → O → Result (Unit {0}) Failure → Type 0
+  IsNotMade writer writer' ended = (ended ≡ Err RunFailed) × (writer' ≡ writer)
 
-  -- a policy by what was read of its file
-  abbrev pub SendsRead : List ℕ → Result (List ℕ) NotRead → O → O → Result (Unit {0}) Failure → Type 0
-  SendsRead path (Ok text) writer writer' ended =
-      Sends false path (policy_octets text) writer writer' ended
-  SendsRead path (Err why) writer writer' ended =
+  -- the command for the policy of a file of these octets was sent, and where it was refused, it was for this
+  -- reason
+  pub record IsPolicySent (path file : Bor (List ℕ)) (text : List ℕ) (writer writer' : O)
+      (ended : Result (Unit {0}) Failure) : Type 0 where
+    pub octets : List ℕ
+    pub command : IsPolicyCommand text octets
+    pub answered : Result (Unit {0}) Failure
+    pub sent : IsSent path (policy file.now) octets writer writer' answered
+    pub ends : IsPolicyEnd file text answered ended
+
+  -- the policy of this file by what was read of it
+  abbrev pub SendsRead : Bor (List ℕ) → Bor (List ℕ) → Result (List ℕ) NotRead → O → O
+      → Result (Unit {0}) Failure → Type 0
+  SendsRead path file (Ok text) writer writer' ended =
+      IsPolicySent path file text writer writer' ended ⊎ IsNotMade writer writer' ended
+  SendsRead path file (Err why) writer writer' ended =
       (ended ≡ Err (policy_failure why)) × (writer' ≡ writer)
 
 -- Beside these a reader of files, by what a read of the file of a name may give.
 module _ {O : Type 0} (Gives : List ℕ → Result (List ℕ) NotRead → Type 0)
-    (Answers : List ℕ → List ℕ → Option (List ℕ) → Type 0) (contents : O → Option (List ℕ)) where
+    (Answers : List ℕ → List ℕ → Result (List ℕ) NoAnswer → Type 0) (contents : O → Option (List ℕ)) where
   -- a file was read, or not, and what was read of it was sent as a policy
-  pub record SendsFile (path file : List ℕ) (writer writer' : O) (ended : Result (Unit {0}) Failure)
-      : Type 0 where
+  pub record SendsFile (path file : Bor (List ℕ)) (writer writer' : O)
+      (ended : Result (Unit {0}) Failure) : Type 0 where
     pub read : Result (List ℕ) NotRead
-    pub is : IsReadOf Gives limit.Policy file read
-    pub sends : SendsRead Answers contents path read writer writer' ended
+    pub is : IsReadOf Gives limit.Policy file.now read
+    pub sends : SendsRead Answers contents path file read writer writer' ended
 
-  -- A command was sent to the agent whose control socket has this path. A link by which no port sends is
-  -- answered without octets.
-  abbrev pub SendsCommand : List ℕ → Command → O → O → Result (Unit {0}) Failure → Type 0
-  SendsCommand path counts writer writer' ended =
-      Sends Answers contents false path (codes "counts\n") writer writer' ended
-  SendsCommand path (link port up) writer writer' ended =
-      Sends Answers contents true path (link_octets port up) writer writer' ended
-  SendsCommand path (policy file) writer writer' ended = SendsFile path file writer writer' ended
+  -- A command was sent to the agent whose control socket has this path.
+  abbrev pub SendsCommand : Bor (List ℕ) → Order → O → O → Result (Unit {0}) Failure → Type 0
+  SendsCommand path Counts writer writer' ended =
+      IsSent Answers contents path counts (codes "counts\n") writer writer' ended
+  SendsCommand path (Link port up) writer writer' ended =
+      IsSent Answers contents path (link port.now up) (link_octets port.now up) writer writer' ended
+      ⊎ IsNotMade Answers contents writer writer' ended
+  SendsCommand path (Policy file) writer writer' ended = SendsFile path file writer writer' ended

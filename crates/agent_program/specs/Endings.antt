@@ -18,7 +18,11 @@ use Rattle.explain.specs.declared.questions.QuestionFault.{QuestionFault}
 use Rattle.explain.specs.declared.questions.QuestionFault.TheVariants.{Memory as NoQuestionMemory, Name}
 use Rattle.agent_program.specs.declared.reporting.NotTaken.{NotTaken}
 use Rattle.agent_program.specs.declared.failure.Failure.{Failure}
-use Rattle.agent_program.specs.declared.failure.Failure.TheVariants.{NotText, NoName, CannotRead, TooLarge, Refused, RefusedFor, Input, Output, Unanswered, NotDone, Run as RunFailed}
+use Rattle.agent_program.specs.declared.failure.Failure.TheVariants.{NotText, NoName, CannotRead, TooLarge, Refused, RefusedFor, Input, Output, Unanswered, NotDone, PolicyNotDone, Run as RunFailed}
+use Rattle.agent_program.specs.declared.answering.NoAnswer.{NoAnswer}
+use Rattle.agent_program.specs.declared.answering.NoAnswer.TheVariants as unanswered
+use Rattle.agent_program.specs.declared.answering.Undone.{Undone}
+use Rattle.agent_program.specs.declared.answering.Undone.TheVariants as undone
 use Rattle.agent_program.specs.declared.failure.Refusal.{Refusal}
 use Rattle.agent_program.specs.declared.failure.Refusal.TheVariants as refused
 
@@ -33,8 +37,9 @@ failure_status Refused = 2
 failure_status (RefusedFor file refusal) = 2
 failure_status Input = 1
 failure_status Output = 1
-failure_status Unanswered = 1
-failure_status NotDone = 1
+failure_status (Unanswered path why) = 1
+failure_status (NotDone why) = 1
+failure_status (PolicyNotDone file refusal) = 1
 failure_status RunFailed = 1
 
 abbrev pub status_of : {A : Type 0} → Result A Failure → ℕ
@@ -51,8 +56,9 @@ failure_words Refused = codes "configuration refused"
 failure_words (RefusedFor file refusal) = codes "configuration refused"
 failure_words Input = codes "input failed"
 failure_words Output = codes "output failed"
-failure_words Unanswered = codes "no answer"
-failure_words NotDone = codes "command refused"
+failure_words (Unanswered path why) = codes "no answer"
+failure_words (NotDone why) = codes "command refused"
+failure_words (PolicyNotDone file refusal) = codes "command refused"
 failure_words RunFailed = codes "run failed"
 
 abbrev pub failure_name : Failure → List ℕ
@@ -64,8 +70,9 @@ failure_name Refused = []
 failure_name (RefusedFor file refusal) = []
 failure_name Input = []
 failure_name Output = []
-failure_name Unanswered = []
-failure_name NotDone = []
+failure_name (Unanswered path why) = []
+failure_name (NotDone why) = []
+failure_name (PolicyNotDone file refusal) = []
 failure_name RunFailed = []
 
 -- the line that says of a file how many octets it may have
@@ -87,7 +94,29 @@ reason_words kind.StaleNetworkFileHandle = codes "Stale file handle"
 reason_words kind.TimedOut = codes "Connection timed out"
 reason_words unnamed = codes "another error of the system"
 
--- why the configuration of a file is refused, in the words of a check
+-- why an agent gave no answer, as an operator reads it
+abbrev pub no_answer_words : NoAnswer → List ℕ
+no_answer_words unanswered.NoSocket = codes "there is no socket at this path"
+no_answer_words unanswered.NotPermitted = codes "this user may not connect to the socket"
+no_answer_words unanswered.NobodyListens = codes "nobody listens at the socket"
+no_answer_words unanswered.TooLate = codes "no answer came within two seconds"
+no_answer_words unanswered.Ended = codes "the connection ended without an answer"
+no_answer_words unanswered.Memory = codes "there was no memory for the answer"
+no_answer_words (unanswered.System reason) = reason_words reason
+
+-- the line that says why an agent did not do a command; none of a policy
+abbrev pub undone_line : Undone → List ℕ
+undone_line undone.NoPort = codes "agentd: a port is a number of 1 to 32\n"
+undone_line undone.NoPortThere =
+    codes "agentd: the agent has no such port: its ports are 1 to the number of [[port]] in its configuration\n"
+undone_line undone.Unknown =
+    codes "agentd: the agent does not know this command: commands are link P up, link P down, policy and counts\n"
+undone_line undone.Policy = []
+undone_line undone.Short = codes "agentd: the agent had no memory for the command\n"
+undone_line undone.Full =
+    codes "agentd: the agent has no number left for an entry: it takes changes again when it is started anew\n"
+
+-- why the configuration or the policy of a file is refused, in the words of a check
 abbrev pub refusal_words : Refusal → List ℕ
 refusal_words (refused.Fault sentence) = string_bytes sentence
 refusal_words refused.NoSentence =
@@ -97,6 +126,8 @@ refusal_words (refused.Unserved NoServe) =
     codes "configuration ok for script, not for serve: no [serve]"
 refusal_words (refused.Unserved NoSockets) =
     codes "configuration ok for script, not for serve: a port without listen or peer"
+refusal_words refused.ByAgent =
+    codes "the policy is right; the agent had no memory for it, or it has more than 65536 octets"
 
 -- the line that says of a file what the cause is
 abbrev pub cause_line : List ℕ → List ℕ → List ℕ
@@ -106,8 +137,8 @@ abbrev pub first_line : Failure → List ℕ
 first_line failure =
     codes "agentd: " ++ (failure_words failure ++ (failure_name failure ++ codes "\n"))
 
--- The line that follows for a file: why it cannot be read, how many octets it may have, or why its
--- configuration is refused.
+-- The line that follows: of a file why it cannot be read, how many octets it may have, or why its
+-- configuration or its policy is refused; of an agent why it gave no answer, or did not do a command.
 abbrev pub second_line : Failure → List ℕ
 second_line NotText = []
 second_line (NoName word) = []
@@ -117,8 +148,9 @@ second_line Refused = []
 second_line (RefusedFor file refusal) = cause_line file.now (refusal_words refusal)
 second_line Input = []
 second_line Output = []
-second_line Unanswered = []
-second_line NotDone = []
+second_line (Unanswered path why) = cause_line path.now (no_answer_words why)
+second_line (NotDone why) = undone_line why
+second_line (PolicyNotDone file refusal) = cause_line file.now (refusal_words refusal)
 second_line RunFailed = []
 
 -- its line, and behind it the second, where there is one

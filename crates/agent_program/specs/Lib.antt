@@ -1,6 +1,7 @@
 pub mod Files
 pub mod Agents
 pub mod Runs
+pub mod Answering
 pub mod Endings
 pub mod Warned
 pub mod Reporting

@@ -1,18 +1,20 @@
 -- What the program does for what is asked of it.
 use Rattle.std.specs.Prelude.{◌≡◌, ℕ, List, Option, Some, None, Result, Ok, Err}
+use Rattle.std.specs.Borrow.{Bor}
 use Rattle.configuration.specs.declared.configuration.TheConstants.{BUILT_IN}
 use Rattle.setphase_core.specs.Objects.{ObjectState}
 use Rattle.agent_script.specs.declared.session.ScriptEnd.{ScriptEnd}
 use Rattle.agent_program.specs.declared.files.FileLimit.TheVariants as limit
 use Rattle.agent_program.specs.declared.files.NotRead.{NotRead}
 use Rattle.agent_program.specs.declared.opening.NotRun.{NotRun}
+use Rattle.agent_program.specs.declared.answering.NoAnswer.{NoAnswer}
 use Rattle.agent_program.specs.declared.failure.Failure.{Failure}
 use Rattle.agent_program.specs.declared.failure.Ended.{Ended}
 use Rattle.agent_words.specs.declared.asked.Asked.{Asked}
 use Rattle.agent_words.specs.declared.asked.Asked.TheVariants.{BuiltIn, Script, Check, Serve, Explain, Tell}
 use Rattle.agent_words.specs.declared.asked.Lasting.{Lasting}
 use Rattle.agent_words.specs.Asking.{Inquiry, question_view}
-use Rattle.agent_words.specs.Orders.{Command, order_view}
+use Rattle.agent_words.specs.declared.asked.Order.{Order}
 use Rattle.agent_program.specs.Files.{IsReadOf}
 use Rattle.agent_program.specs.Endings.{status_of, stated_of, read_failure, IsLineTaken}
 use Rattle.agent_program.specs.Refusals.{EndsBy}
@@ -94,13 +96,13 @@ module _ {I O : Type 0} (Gives : List ℕ → Result (List ℕ) NotRead → Type
 
 -- Beside these an agent, by what it may answer at the control socket of a path to octets.
 module _ {I O : Type 0} (Gives : List ℕ → Result (List ℕ) NotRead → Type 0)
-    (Answers : List ℕ → List ℕ → Option (List ℕ) → Type 0) (objects : List ObjectState)
+    (Answers : List ℕ → List ℕ → Result (List ℕ) NoAnswer → Type 0) (objects : List ObjectState)
     (remaining : I → Option (List ℕ)) (contents : O → Option (List ℕ)) where
   -- the agent of this path was sent a command, and nothing else was read
-  pub record Commands (path : List ℕ) (command : Command) (reader reader' : I) (writer writer' : O)
+  pub record Commands (path : Bor (List ℕ)) (order : Order) (reader reader' : I) (writer writer' : O)
       (ended : Result (Unit {0}) Failure) : Type 0 where
     pub unread : reader' ≡ reader
-    pub sends : SendsCommand Gives Answers contents path command writer writer' ended
+    pub sends : SendsCommand Gives Answers contents path order writer writer' ended
 
   -- What the program did for what is asked.
   abbrev pub Does : Asked → I → I → O → O → Result (Option Service) Failure → Type 0
@@ -116,7 +118,7 @@ module _ {I O : Type 0} (Gives : List ℕ → Result (List ℕ) NotRead → Type
       (Explains Gives objects remaining contents (question_view question) file.now reader reader'
       writer writer') done
   Does (Tell path order) reader reader' writer writer' done =
-      HasDone (Commands path.now (order_view order) reader reader' writer writer') done
+      HasDone (Commands path order reader reader' writer writer') done
 
   -- The program did what is asked, and this is left to be served, if anything: its status is
   -- that of how it ended, and on standard error stands the line that says so, and the second where

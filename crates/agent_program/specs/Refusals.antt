@@ -3,7 +3,10 @@ use Rattle.std.specs.Prelude.{◌≡◌, ℕ, List, Option, Some, None, Result, 
 use Rattle.std.specs.Borrow.{Bor}
 use Rattle.agent_script.specs.declared.session.ScriptEnd.{ScriptEnd}
 use Rattle.configuration.specs.declared.fault.ConfigurationFault.{ConfigurationFault}
+use Rattle.community_core.specs.Communities.{PolicyTables}
+use Rattle.policy_text.specs.Texts.{HasContent}
 use Rattle.configuration.specs.Details.{IsSentenceIn}
+use Rattle.configuration.specs.PolicyFiles.{IsPolicyIn, IsPolicyFaultIn, IsPolicySentenceIn}
 use Rattle.agent_program.specs.declared.opening.NotRun.{NotRun}
 use Rattle.agent_program.specs.declared.opening.NotRun.TheVariants.{Refused as IsRefused, Unserved, Memory, NoRegistry, Stopped}
 use Rattle.agent_program.specs.declared.failure.Failure.{Failure}
@@ -18,6 +21,19 @@ IsRefusalOf octets fault (refused.Fault sentence) = IsSentenceIn octets fault (s
 IsRefusalOf octets fault refused.NoSentence = Unit {0}
 IsRefusalOf octets fault refused.Memory = ⊥
 IsRefusalOf octets fault (refused.Unserved why) = ⊥
+IsRefusalOf octets fault refused.ByAgent = ⊥
+
+-- the policy of a file of these octets is refused for this: by the sentence on its first fault, for which
+-- there may be no memory, as for the policy; or it has none, and the agent refused it all the same
+abbrev pub IsPolicyRefusal : List ℕ → Refusal → Type 0
+IsPolicyRefusal octets (refused.Fault sentence) =
+    (fault : ConfigurationFault) × IsPolicyFaultIn octets fault
+    × IsPolicySentenceIn octets fault (string_bytes sentence)
+IsPolicyRefusal octets refused.NoSentence =
+    (fault : ConfigurationFault) × IsPolicyFaultIn octets fault
+IsPolicyRefusal octets refused.Memory = HasContent octets
+IsPolicyRefusal octets (refused.Unserved why) = ⊥
+IsPolicyRefusal octets refused.ByAgent = (policy : PolicyTables) × IsPolicyIn octets policy
 
 -- the configuration of this file, if of one, is refused, and this is why
 pub record IsRefusedFor (file : Option (List ℕ)) (Why : Refusal → Type 0) (failure : Failure) : Type 0 where

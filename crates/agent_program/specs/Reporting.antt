@@ -15,7 +15,7 @@ use Rattle.agent_program.specs.declared.files.FileLimit.TheVariants as limit
 use Rattle.agent_program.specs.declared.files.NotRead.{NotRead}
 use Rattle.agent_program.specs.declared.files.NotRead.TheVariants.{Memory as FileMemory, Unreadable, TooLarge as FileTooLarge}
 use Rattle.agent_program.specs.declared.failure.Failure.{Failure}
-use Rattle.agent_program.specs.declared.failure.Failure.TheVariants.{NotText, NoName, CannotRead, TooLarge, Refused, RefusedFor, Input, Output, Unanswered, NotDone, Run as RunFailed}
+use Rattle.agent_program.specs.declared.failure.Failure.TheVariants.{NotText, NoName, CannotRead, TooLarge, Refused, RefusedFor, Input, Output, Unanswered, NotDone, PolicyNotDone, Run as RunFailed}
 use Rattle.agent_program.specs.Endings.{TakesFront}
 use Rattle.agent_program.specs.Files.{IsReadOf}
 use Rattle.agent_program.specs.Warned.{warned_text}
@@ -64,8 +64,9 @@ module _ {O : Type 0} (contents : O → Option (List ℕ)) where
   IsCutOff text writer writer' (RefusedFor file refusal) = ⊥
   IsCutOff text writer writer' Input = ⊥
   IsCutOff text writer writer' Output = TakesFront (contents writer) (contents writer') text
-  IsCutOff text writer writer' Unanswered = ⊥
-  IsCutOff text writer writer' NotDone = ⊥
+  IsCutOff text writer writer' (Unanswered path why) = ⊥
+  IsCutOff text writer writer' (NotDone why) = ⊥
+  IsCutOff text writer writer' (PolicyNotDone file refusal) = ⊥
   IsCutOff text writer writer' RunFailed = ⊥
 
   -- This text was written, or a front of it until the output failed.
@@ -86,8 +87,9 @@ module _ {O : Type 0} (contents : O → Option (List ℕ)) where
   IsFaultReported octets fault writer writer' Input = ⊥
   IsFaultReported octets fault writer writer' Output =
       IsFaultWritten octets fault (TakesFront (contents writer) (contents writer'))
-  IsFaultReported octets fault writer writer' Unanswered = ⊥
-  IsFaultReported octets fault writer writer' NotDone = ⊥
+  IsFaultReported octets fault writer writer' (Unanswered path why) = ⊥
+  IsFaultReported octets fault writer writer' (NotDone why) = ⊥
+  IsFaultReported octets fault writer writer' (PolicyNotDone file refusal) = ⊥
   IsFaultReported octets fault writer writer' RunFailed = writer' ≡ writer
 
   -- the octets are no configuration, and that is reported

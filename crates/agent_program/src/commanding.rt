@@ -1,14 +1,17 @@
 //! Has a served agent do a command.
-ghost use Rattle.std.specs.Prelude.{◌≡◌, IfOk, IsOkAnd, ⊤, ℕ, List, Option, option_map};
+ghost use Rattle.std.specs.Prelude.{◌≡◌, IfOk, IsOkAnd, ⊤, ℕ, List, Result, Ok};
 ghost use Rattle.control_socket.specs.Sent.{link_octets, policy_octets};
 ghost use Rattle.agent_words.specs.Orders.{order_view};
 ghost use Rattle.agent_program.specs.Files.{read_view};
-ghost use Rattle.agent_program.specs.Commands.{policy_failure, heard, IsPrinted, EndsBy, Sends, SendsRead, SendsFile, SendsCommand};
+ghost use Rattle.agent_program.specs.declared.answering.NoAnswer.{NoAnswer};
+ghost use Rattle.agent_program.specs.Commands.{policy_failure, heard, answer_view, may_be_empty, IsPrinted, EndsBy, IsSent, IsPolicyCommand, IsPolicyEnd, SendsRead, SendsFile, SendsCommand};
 
-use crate::failure::{Failure, write_out};
+use crate::answering::{NoAnswer, Undone, undone_by};
+use crate::failure::{Failure, policy_refusal, write_out};
 use crate::files::{FileLimit, NotRead, ReadFile, SystemFiles};
 use agent_words::Order;
-use control_socket::{COUNTS, ask_agent, is_refusal, link_command, policy_command};
+use configuration::policy_part_in;
+use control_socket::{COUNTS, ask_agent, link_command, policy_command};
 use std::alloc::{AllocError, Global};
 use std::io::Write;
 use std::net::Net;
@@ -16,78 +19,91 @@ use std::time::Clock;
 
 /// Has served agents do commands.
 pub trait AskAgent {
-    /// What the agent whose control socket has this path may answer to these octets, if it answers.
-    ghost answers: { Self → List ℕ → List ℕ → Option (List ℕ) → Type 0 };
+    /// What the agent whose control socket has this path may answer to these octets, or why it gives no
+    /// answer.
+    ghost answers: { Self → List ℕ → List ℕ → Result (List ℕ) NoAnswer → Type 0 };
 
-    /// Sends a command to the agent whose control socket has this path, and gives its answer; none where
-    /// there was none within two seconds.
-    fn ask(&self, alloc: Global, path: &str, command: &[u8]) -> Option<Vec<u8>>
-        ensures { answers self.now path.now command.now
-            (option_map (λ answer. answer.items) result) };
+    /// Sends a command to the agent whose control socket has this path, and gives its answer.
+    ///
+    /// # Errors
+    /// Why there was none within two seconds.
+    fn ask(&self, alloc: Global, path: &str, command: &[u8]) -> Result<Vec<u8>, NoAnswer>
+        ensures { answers self.now path.now command.now (answer_view result) };
 }
 
 /// The agents of the system. No clause can say what one answers.
 impl<R: Net + Clock> AskAgent for SystemFiles<'_, R> {
     ghost answers = { λ _ _ _ _. ⊤ };
 
-    fn ask(&self, alloc: Global, path: &str, command: &[u8]) -> Option<Vec<u8>> {
-        ask_agent(self.0, alloc, path, command).ok()
+    fn ask(&self, alloc: Global, path: &str, command: &[u8]) -> Result<Vec<u8>, NoAnswer> {
+        match ask_agent(self.0, alloc, path, command) {
+            Ok(answer) => Ok(answer),
+            Err(error) => Err(NoAnswer::of_kind(error.kind())),
+        }
     }
 }
 
-// Prints an answer. One that refuses the command is a failure.
-fn print_answer<'a, O: Write>(answer: &[u8], writer: &mut O) -> Result<(), Failure<'a>>
-    ensures { IsPrinted O.contents answer.now writer.old writer.new result }
+// Prints an answer to a command. One that refuses it is a failure.
+fn print_answer<'a, O: Write>(
+    order: Order<'a>,
+    answer: &[u8],
+    writer: &mut O,
+) -> Result<(), Failure<'a>>
+    ensures { IsPrinted O.contents (order_view order.entry) answer.now writer.old writer.new result }
 {
-    match write_out(answer, writer) {
-        Ok(()) if is_refusal(answer) => Err(Failure::NotDone),
-        Ok(()) => Ok(()),
-        Err(failure) => Err(failure),
+    match (write_out(answer, writer), undone_by(order, answer)) {
+        (Ok(()), Some(why)) => Err(Failure::NotDone(why)),
+        (printed, _) => printed,
     }
 }
 
-// Prints what is answered, if anything is.
-fn end_by<'a, O: Write>(answer: Option<Vec<u8>>, writer: &mut O) -> Result<(), Failure<'a>>
-    ensures { EndsBy O.contents (option_map (λ answer. answer.items) answer) writer.old writer.new
-        result }
+// Prints what the agent of a path answers to a command, if it answers.
+fn end_by<'a, O: Write>(
+    path: &'a str,
+    order: Order<'a>,
+    answer: Result<Vec<u8>, NoAnswer>,
+    writer: &mut O,
+) -> Result<(), Failure<'a>>
+    ensures { EndsBy O.contents path.entry (order_view order.entry) (answer_view answer.entry) writer.old
+        writer.new result }
 {
     match answer {
-        Some(answer) => print_answer(&answer, writer),
-        None => Err(Failure::Unanswered),
+        Ok(answer) => print_answer(order, &answer, writer),
+        Err(why) => Err(Failure::Unanswered(path, why)),
     }
+}
+
+// Whether a command may be answered without octets: a link may, by which no port sends.
+fn may_be_empty(order: Order<'_>) -> bool
+    ensures { result ≡ may_be_empty (order_view order.entry) }
+{
+    matches!(order, Order::Link(..))
 }
 
 // An answer, if it is one: no octets are one only to a command that may be answered so.
-fn heard(may_be_empty: bool, answer: Option<Vec<u8>>) -> Option<Vec<u8>>
-    ensures { option_map (λ answer. answer.items) result
-        ≡ heard may_be_empty (option_map (λ answer. answer.items) answer) }
+fn heard(may_be_empty: bool, answer: Result<Vec<u8>, NoAnswer>) -> Result<Vec<u8>, NoAnswer>
+    ensures { answer_view result ≡ heard may_be_empty (answer_view answer) }
 {
     match answer {
-        Some(answer) if may_be_empty || !answer.is_empty() => Some(answer),
-        _ => None,
+        Ok(answer) if !may_be_empty && answer.is_empty() => Err(NoAnswer::Ended),
+        answer => answer,
     }
 }
 
-// Sends octets to the agent of a path, where there was memory for them.
+// Sends the octets of a command to the agent of a path.
 fn send<'a, F: AskAgent, O: Write>(
     alloc: Global,
     agents: &F,
-    path: &str,
-    octets: Result<Vec<u8>, AllocError>,
-    may_be_empty: bool,
+    path: &'a str,
+    order: Order<'a>,
+    octets: &[u8],
     writer: &mut O,
 ) -> Result<(), Failure<'a>>
-    ensures { (sent : List ℕ) → IfOk octets (λ octets. octets.items ≡ sent) →
-        Sends (F.answers agents.now) O.contents may_be_empty path.now sent writer.old writer.new
-        result }
+    ensures { IsSent (F.answers agents.now) O.contents path.entry (order_view order.entry) octets.now
+        writer.old writer.new result }
 {
-    match octets {
-        Ok(octets) => {
-            let answer = agents.ask(alloc, path, &octets);
-            end_by(heard(may_be_empty, answer), writer)
-        }
-        Err(_) => Err(Failure::Run),
-    }
+    let answer = agents.ask(alloc, path, octets);
+    end_by(path, order, heard(may_be_empty(order), answer), writer)
 }
 
 // Why there is no command by a file.
@@ -101,26 +117,69 @@ fn policy_failure(why: NotRead<'_>) -> Failure<'_>
     }
 }
 
-// Sends the policy that was read of a file.
+// The command for the policy of a file of these octets: of a whole configuration its policy is sent.
+fn policy_command_of(alloc: Global, text: &[u8]) -> Result<Vec<u8>, AllocError>
+    ensures { IfOk result (λ octets. IsPolicyCommand text.now octets.items) }
+{
+    match policy_part_in(alloc, text)? {
+        Some(part) => policy_command(alloc, part.as_bytes()),
+        None => policy_command(alloc, text),
+    }
+}
+
+// How the program ends behind the answer to a policy of these octets of a file: where it is refused, with the
+// reason that the octets have.
+fn end_by_policy<'a>(
+    alloc: Global,
+    file: &'a str,
+    text: &[u8],
+    answered: Result<(), Failure<'a>>,
+) -> Result<(), Failure<'a>>
+    ensures { IsPolicyEnd file.entry text.now answered.entry result }
+{
+    match answered {
+        Err(Failure::NotDone(Undone::Policy)) => {
+            Err(Failure::PolicyNotDone(file, policy_refusal(alloc, text)))
+        }
+        answered => answered,
+    }
+}
+
+// Sends the policy of a file of these octets.
+fn send_policy<'a, F: AskAgent, O: Write>(
+    alloc: Global,
+    agents: &F,
+    path: &'a str,
+    file: &'a str,
+    text: &[u8],
+    writer: &mut O,
+) -> Result<(), Failure<'a>>
+    ensures { SendsRead (F.answers agents.now) O.contents path.entry file.entry (Ok text.now)
+        writer.old writer.new result }
+{
+    match policy_command_of(alloc, text) {
+        Ok(octets) => {
+            let answered = send(alloc, agents, path, Order::Policy(file), &octets, writer);
+            end_by_policy(alloc, file, text, answered)
+        }
+        Err(_) => Err(Failure::Run),
+    }
+}
+
+// Sends the policy that was read of this file.
 fn send_read<'a, F: AskAgent, O: Write>(
     alloc: Global,
     agents: &F,
-    path: &str,
+    path: &'a str,
+    file: &'a str,
     read: Result<Vec<u8>, NotRead<'a>>,
     writer: &mut O,
 ) -> Result<(), Failure<'a>>
-    ensures { SendsRead (F.answers agents.now) O.contents path.now (read_view read.entry) writer.old
-        writer.new result }
+    ensures { SendsRead (F.answers agents.now) O.contents path.entry file.entry (read_view read.entry)
+        writer.old writer.new result }
 {
     match read {
-        Ok(text) => send(
-            alloc,
-            agents,
-            path,
-            policy_command(alloc, &text),
-            false,
-            writer,
-        ),
+        Ok(text) => send_policy(alloc, agents, path, file, &text, writer),
         Err(why) => Err(policy_failure(why)),
     }
 }
@@ -130,47 +189,43 @@ fn send_read<'a, F: AskAgent, O: Write>(
 fn send_file<'a, F: ReadFile + AskAgent, O: Write>(
     alloc: Global,
     files: &F,
-    path: &str,
+    path: &'a str,
     file: &'a str,
     writer: &mut O,
 ) -> Result<(), Failure<'a>>
-    ensures { SendsFile (F.gives files.now) (F.answers files.now) O.contents path.now file.now
+    ensures { SendsFile (F.gives files.now) (F.answers files.now) O.contents path.entry file.entry
         writer.old writer.new result }
 {
     let read = files.read_file(file, FileLimit::Policy);
-    send_read(alloc, files, path, read, writer)
+    send_read(alloc, files, path, file, read, writer)
 }
 
-/// Sends a command to the agent whose control socket has this path, and prints its answer.
+/// Sends a command to the agent whose control socket has this path, and prints its answer. The file of a policy
+/// may be that of a whole configuration, whose policy is sent.
 ///
 /// # Errors
 /// `CannotRead` where the file of a policy cannot be read, `TooLarge` where it has more octets than a
 /// policy may have; `Run` where there is no memory for the
-/// command; `Unanswered` where no answer comes within two seconds, or none with octets to counts or a
-/// policy: nothing is written then. `NotDone`
-/// where the answer, which is written, refuses the command; `Output` where a write fails.
+/// command; `Unanswered`, with the path and why, where no answer comes within two seconds, or none with
+/// octets to counts or a policy: nothing is written then. `NotDone`, with why,
+/// where the answer, which is written, refuses the command, and `PolicyNotDone`, with the file and why, where it
+/// refuses a policy; `Output` where a write fails.
 pub fn send_order<'a, F: ReadFile + AskAgent, O: Write>(
     alloc: Global,
     files: &F,
-    path: &str,
+    path: &'a str,
     order: Order<'a>,
     writer: &mut O,
 ) -> Result<(), Failure<'a>>
-    ensures { SendsCommand (F.gives files.now) (F.answers files.now) O.contents path.now
-        (order_view order.entry) writer.old writer.new result }
+    ensures { SendsCommand (F.gives files.now) (F.answers files.now) O.contents path.entry order.entry
+        writer.old writer.new result }
 {
     match order {
-        Order::Counts => end_by(heard(false, files.ask(alloc, path, COUNTS)), writer),
-        Order::Link(port, up) => {
-            send(
-                alloc,
-                files,
-                path,
-                link_command(alloc, port, up),
-                true,
-                writer,
-            )
-        }
+        Order::Counts => send(alloc, files, path, order, COUNTS, writer),
+        Order::Link(port, up) => match link_command(alloc, port, up) {
+            Ok(octets) => send(alloc, files, path, order, &octets, writer),
+            Err(_) => Err(Failure::Run),
+        },
         Order::Policy(file) => send_file(alloc, files, path, file, writer),
     }
 }

@@ -4,13 +4,17 @@ ghost use Rattle.std.specs.Io.KnownBytes.{Appends};
 ghost use Rattle.std.specs.IoError.{error_kind};
 ghost use Rattle.agent_program.specs.Reporting.{IsReported};
 ghost use Rattle.agent_program.specs.Endings.{failure_status, failure_words, failure_name, reason_words, refusal_words, limit_line, cause_line, first_line, second_line, failure_line, refused_for, words_failure, run_failure, read_failure, question_failure, answered_status, answered_line, TakesFront, IsLineTaken};
-ghost use Rattle.agent_program.specs.Refusals.{IsRefusalOf, IsFailureOf};
+ghost use Rattle.agent_program.specs.Refusals.{IsRefusalOf, IsPolicyRefusal, IsFailureOf};
+ghost use Rattle.configuration.specs.PolicyFiles.{IsPolicyFaultIn};
 
+use crate::answering::{NoAnswer, Undone};
 use crate::files::{FileLimit, NotRead};
 use crate::opening::NotRun;
 use crate::reporting::{NotTaken, write_front};
 use agent_words::Answered;
-use configuration::{ConfigurationFault, NO_MEMORY, sentence_in};
+use configuration::{
+    ConfigurationFault, NO_MEMORY, policy_file_in, policy_sentence_in, sentence_in,
+};
 use explain::QuestionFault;
 use script_core::RunFault;
 use std::alloc::Global;
@@ -24,7 +28,7 @@ pub const USAGE: u8 = 2;
 /// The status for input, output or a run that failed.
 pub const FAILED: u8 = 1;
 
-/// Why the configuration of a file is refused.
+/// Why the configuration, or the policy, of a file is refused.
 #[derive(Debug, Drop)]
 pub enum Refusal {
     /// For its first fault, which has this sentence.
@@ -35,6 +39,8 @@ pub enum Refusal {
     Memory,
     /// It cannot be served.
     Unserved(Unserved),
+    /// The octets say a policy, and the agent that was to take it did not.
+    ByAgent,
 }
 
 /// Why the program ends with another status than 0.
@@ -58,10 +64,13 @@ pub enum Failure<'a> {
     Input,
     /// The output could not be written.
     Output,
-    /// The agent that was to do a command gave no answer.
-    Unanswered,
-    /// The agent did not do the command, as its answer says.
-    NotDone,
+    /// The agent whose control socket has this path, and that was to do a command, gave no answer, for this
+    /// reason.
+    Unanswered(&'a str, NoAnswer),
+    /// The agent did not do the command, as its answer says, for this reason.
+    NotDone(Undone),
+    /// The agent refused the policy of this file, as its answer says, for this reason.
+    PolicyNotDone(&'a str, Refusal),
     /// The run found no memory for its own lines and lists, or what was to be served was not, or
     /// failed.
     Run,
@@ -97,6 +106,28 @@ fn fault_refusal(alloc: Global, octets: &[u8], fault: ConfigurationFault) -> Ref
     match sentence_in(alloc, octets, fault) {
         Ok(sentence) => Refusal::Fault(sentence),
         Err(_) => Refusal::NoSentence,
+    }
+}
+
+// Why the octets of a policy's file are refused that have this first fault.
+fn policy_fault_refusal(alloc: Global, octets: &[u8], fault: ConfigurationFault) -> Refusal
+    requires { IsPolicyFaultIn octets.now fault }
+    ensures { IsPolicyRefusal octets.now result }
+{
+    match policy_sentence_in(alloc, octets, fault) {
+        Ok(sentence) => Refusal::Fault(sentence),
+        Err(_) => Refusal::NoSentence,
+    }
+}
+
+/// Why an agent refused the policy of a file of these octets: for its first fault, if it has one.
+pub fn policy_refusal(alloc: Global, octets: &[u8]) -> Refusal
+    ensures { IsPolicyRefusal octets.now result }
+{
+    match policy_file_in(alloc, octets) {
+        Ok(_) => Refusal::ByAgent,
+        Err(ConfigurationFault::Memory) => Refusal::Memory,
+        Err(fault) => policy_fault_refusal(alloc, octets, fault),
     }
 }
 
@@ -165,8 +196,9 @@ impl Failure<'_> {
             | Failure::RefusedFor(_, _) => USAGE,
             Failure::Input
             | Failure::Output
-            | Failure::Unanswered
-            | Failure::NotDone
+            | Failure::Unanswered(_, _)
+            | Failure::NotDone(_)
+            | Failure::PolicyNotDone(_, _)
             | Failure::Run => FAILED,
         }
     }
@@ -182,8 +214,8 @@ impl Failure<'_> {
             Failure::Refused | Failure::RefusedFor(_, _) => b"configuration refused",
             Failure::Input => b"input failed",
             Failure::Output => b"output failed",
-            Failure::Unanswered => b"no answer",
-            Failure::NotDone => b"command refused",
+            Failure::Unanswered(_, _) => b"no answer",
+            Failure::NotDone(_) | Failure::PolicyNotDone(_, _) => b"command refused",
             Failure::Run => b"run failed",
         }
     }
@@ -200,8 +232,9 @@ impl Failure<'_> {
             | Failure::RefusedFor(_, _)
             | Failure::Input
             | Failure::Output
-            | Failure::Unanswered
-            | Failure::NotDone
+            | Failure::Unanswered(_, _)
+            | Failure::NotDone(_)
+            | Failure::PolicyNotDone(_, _)
             | Failure::Run => b"",
         }
     }
@@ -222,12 +255,15 @@ impl Refusal {
             Refusal::Unserved(Unserved::NoSockets) => {
                 b"configuration ok for script, not for serve: a port without listen or peer"
             }
+            Refusal::ByAgent => {
+                b"the policy is right; the agent had no memory for it, or it has more than 65536 octets"
+            }
         }
     }
 }
 
-// Why a file cannot be read, in the words of the C library for the errors of Linux.
-fn reason_words(reason: ErrorKind) -> &'static [u8]
+/// Why a file cannot be read, in the words of the C library for the errors of Linux.
+pub(crate) fn reason_words(reason: ErrorKind) -> &'static [u8]
     ensures { result.now ≡ reason_words reason }
 {
     match reason {
@@ -294,16 +330,16 @@ fn write_second<E: Write>(failure: &Failure<'_>, errors: &mut E) -> Result<(), N
             write_cause(file.as_bytes(), reason_words(*reason), errors)
         }
         Failure::TooLarge(_, limit) => write_front(errors, limit_line(*limit)),
-        Failure::RefusedFor(file, refusal) => {
+        Failure::RefusedFor(file, refusal) | Failure::PolicyNotDone(file, refusal) => {
             write_cause(file.as_bytes(), refusal.words(), errors)
         }
+        Failure::Unanswered(path, why) => write_cause(path.as_bytes(), why.words(), errors),
+        Failure::NotDone(why) => write_front(errors, why.line()),
         Failure::NotText
         | Failure::NoName(_)
         | Failure::Refused
         | Failure::Input
         | Failure::Output
-        | Failure::Unanswered
-        | Failure::NotDone
         | Failure::Run => write_front(errors, b""),
     }
 }
@@ -328,8 +364,9 @@ pub struct Ended {
     pub line: Result<(), NotTaken>,
 }
 
-/// Writes a failure as one line, and where a file cannot be read, has too many octets, or is refused, a
-/// second one that says why, or a front of that where a write fails, and gives its exit status.
+/// Writes a failure as one line, and where a file cannot be read, has too many octets, or is refused, or an
+/// agent gave no answer or did not do a command, a second one that says why, or a front of that where a write
+/// fails, and gives its exit status.
 pub fn report<E: Write>(failure: &Failure<'_>, errors: &mut E) -> Ended
     ensures status { result.status ≡ failure_status failure.now }
     ensures line { IsLineTaken result.line (E.contents errors.old) (E.contents errors.new)

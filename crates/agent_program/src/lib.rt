@@ -6,7 +6,7 @@
 //! [`Ended`], that is the exit status, 0, 1 or 2, and whether the line of a failure was written
 //! whole; and what is left to be served, if that is asked, and for how long: an [`Opened`], and
 //! [`agent_words::Lasting`]. [`end_answered`] ends words that are no command. A [`ReadFile`] gives
-//! the octets of a file, of which it may have as many as a [`FileLimit`], or [`NotRead`], an [`AskAgent`] what a served agent answers to a command,
+//! the octets of a file, of which it may have as many as a [`FileLimit`], or [`NotRead`], an [`AskAgent`] what a served agent answers to a command, or [`NoAnswer`],
 //! [`SystemFiles`] those of the system. [`run_octets`] runs the
 //! script over objects by the octets of a configuration, and refuses octets that say none, or objects
 //! that make no registry, before it reads or writes; [`NotRun`] says why there was no run to the end.
@@ -20,7 +20,8 @@
 //! # Definitions
 //! `specs/Files.antt`: what a read of a file gave; `specs/Agents.antt`: the world that a
 //! configuration opens; `specs/Runs.antt`: what a run by octets promises; `specs/Services.antt`: what
-//! they give to be served; `specs/Endings.antt`: statuses, and the lines of each failure;
+//! they give to be served; `specs/Answering.antt`: why an agent gave no answer, or did not do a command;
+//! `specs/Endings.antt`: statuses, and the lines of each failure;
 //! `specs/Refusals.antt`: why octets were not run or served, as a failure;
 //! `specs/Reporting.antt`: what a check reports; `specs/Warned.antt`: what is written of warnings; `specs/Explanations.antt`: what is written of the decision on
 //! a request; `specs/Commands.antt`: what is done to have a served agent do a command;
@@ -36,6 +37,7 @@
 //! can be bound. What is logged of warnings. What a file of the system holds. That the caller serves what is left to be served.
 #![tactic(auto)]
 
+mod answering;
 mod checking;
 mod collecting;
 mod commanding;
@@ -49,6 +51,7 @@ mod running;
 mod serving;
 mod warned;
 
+pub use answering::{NoAnswer, Undone};
 pub use checking::{check_octets, check_read};
 pub use collecting::collect_words;
 pub use commanding::AskAgent;

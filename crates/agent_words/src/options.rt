@@ -91,6 +91,8 @@ const TELL_HELP: &str = "COMMAND is one of:
   counts              how many datagrams and requests were dropped, by cause
 
 The agent runs with 'agentd serve --forever --control PATH'. What it answers is printed.
+POLICYFILE is a policy alone, or a configuration, whose policy is sent. Behind a refusal, and where no
+answer comes, standard error has the reason.
 
 Exit status: 0; 1 if no answer comes within two seconds, or if it is badline, policy refused, short
 or full; 2 if the words are no command, or if POLICYFILE cannot be read.

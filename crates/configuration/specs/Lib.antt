@@ -17,3 +17,4 @@ pub mod Sentences
 pub mod Details
 pub mod Warnings
 pub mod WarningSentences
+pub mod PolicyFiles

@@ -40,8 +40,12 @@ fn table_in(value: Option<&Value>) -> Option<&Table>
     }
 }
 
-// What would be right, behind the key that is unknown, if there is one.
-fn unknown_rule(alloc: Global, unknown: Option<&str>, rule: &str) -> Result<String, AllocError>
+/// What would be right, behind the key that is unknown, if there is one.
+pub(crate) fn unknown_rule(
+    alloc: Global,
+    unknown: Option<&str>,
+    rule: &str,
+) -> Result<String, AllocError>
     ensures { IfOk result (λ text. string_bytes text
         ≡ unknown_rule (option_map (λ key. key.now) unknown.entry) rule.now) }
 {
@@ -341,8 +345,8 @@ fn broken_sentence(alloc: Global, octets: &[u8], line: usize) -> Result<String, 
     }
 }
 
-// The table that octets write, if they write one.
-fn table_of(alloc: Global, octets: &[u8]) -> Result<Option<Table>, AllocError>
+/// The table that octets write, if they write one.
+pub(crate) fn table_of(alloc: Global, octets: &[u8]) -> Result<Option<Table>, AllocError>
     ensures { IfOk result (λ table. option_map table_view table ≡ members_in octets.now) }
 {
     let Some(text) = text_of(octets) else {

@@ -8,9 +8,12 @@
 //! that a stranger wrote and of what TOML's reader says has [`MAX_NAME_SHOWN`] and
 //! [`MAX_MESSAGE_SHOWN`] octets at most. A [`Configuration`] has its [`Port`]s, and a [`Serve`] where it says how to
 //! serve; a [`ConfigurationFault`] is a first fault, some by a [`PortKey`], a [`ServeKey`] or a
-//! [`PolicyKey`]. [`warnings_of`] gives what is warned of in a configuration that is right, and [`policy_warnings`]
-//! that of a policy alone: each [`Warning`] names a row and its [`RowWarning`], or a port and its
-//! [`PortWarning`]; [`warning_sentence`] is what an operator reads of it. [`BUILT_IN`] is the text where none is given; [`MAX_WORKERS`] and [`MAX_ROUNDS`]
+//! [`PolicyKey`]. [`warnings_of`] gives what is warned of in a configuration that is right, and
+//! [`policy_warnings`] that of a policy alone: each [`Warning`] names a row and its [`RowWarning`], or
+//! a port and its [`PortWarning`]; [`warning_sentence`] is what an operator reads of it.
+//! [`policy_file_in`] reads the file of a policy, alone or in a whole configuration, of whose fault
+//! [`policy_sentence_in`] is the sentence; [`policy_part_in`] has the policy of a configuration as a
+//! text of its own. [`BUILT_IN`] is the text where none is given; [`MAX_WORKERS`] and [`MAX_ROUNDS`]
 //! bound what serves.
 //!
 //! # Definitions
@@ -22,7 +25,8 @@
 //! a text; `specs/Sentences.antt`: the text of each fault by itself; `specs/Details.antt`: that by the
 //! text it is in, for which `specs/AddressFaults.antt`, `specs/KnownKeys.antt` and `specs/Rows.antt` say
 //! which key is wrong or unknown; `specs/Shown.antt`: how a stranger's text is printed;
-//! `specs/Warnings.antt`: what is warned of, and `specs/WarningSentences.antt`: the text of each warning.
+//! `specs/PolicyFiles.antt`: what the file of a policy says; `specs/Warnings.antt`: what is warned of, and
+//! `specs/WarningSentences.antt`: the text of each warning.
 //!
 //! # Laws
 //! In [`laws`]: a table that says a configuration has no fault; a configuration is one that a
@@ -43,6 +47,7 @@ mod known_keys;
 pub mod laws;
 mod lines;
 mod numbers;
+mod policy_files;
 mod policy_keys;
 mod ports;
 mod reading;
@@ -58,6 +63,7 @@ mod warnings;
 pub use configuration::{BUILT_IN, Configuration, MAX_ROUNDS, MAX_WORKERS, Port, Serve};
 pub use details::sentence_in;
 pub use fault::{ConfigurationFault, PolicyKey, PortKey, ServeKey};
+pub use policy_files::{policy_file_in, policy_part_in, policy_sentence_in};
 pub use reading::{configuration_in, configuration_of, configuration_of_text};
 pub use sentences::NO_MEMORY;
 pub use shown::{MAX_MESSAGE_SHOWN, MAX_NAME_SHOWN};

@@ -27,15 +27,15 @@ fn without(mut table: Table, key: &str) -> Table
     table
 }
 
-// What is left of a table for its policy.
-fn policy_table(table: Table) -> Table
+/// What is left of a table for its policy.
+pub(crate) fn policy_table(table: Table) -> Table
     ensures { table_view result ≡ policy_members (table_view table) }
 {
     without(without(without(table, "address"), "port"), "serve")
 }
 
-// The policy that the rest of a table says.
-fn rest_policy(alloc: Global, table: &Table) -> Result<Policy, ConfigurationFault>
+/// The policy that the rest of a table says.
+pub(crate) fn rest_policy(alloc: Global, table: &Table) -> Result<Policy, ConfigurationFault>
     ensures policy { IfOk result (λ p. IsPolicy (table_view table.now) p) }
     ensures fault { IfErr result (λ e. e ≢ ConfigurationFault.Memory →
         IsRestFault (table_view table.now) e) }
@@ -74,8 +74,8 @@ pub fn configuration_of(alloc: Global, table: Table) -> Result<Configuration, Co
     })
 }
 
-// Why a text was not read as a TOML document.
-fn text_fault(text: &str, error: &toml::de::Error) -> ConfigurationFault
+/// Why a text was not read as a TOML document.
+pub(crate) fn text_fault(text: &str, error: &toml::de::Error) -> ConfigurationFault
     requires { IsWithin text.now error.now }
     ensures memory { IsMemory error.now → result ≡ ConfigurationFault.Memory }
     ensures text { ¬ IsMemory error.now → IsBadText text.now result }
