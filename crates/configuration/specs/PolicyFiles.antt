@@ -1,5 +1,5 @@
 -- What the octets of a policy's file say: a policy alone, or a whole configuration with its policy.
-use Rattle.std.specs.Prelude.{◌≡◌, ◌⊎◌, ℕ, ◌≤◌, Bool, true, false, ◌||◌, ◌&&◌, is_some, codes, List, ◌++◌, Option, Some, None, if◌then◌else◌}
+use Rattle.std.specs.Prelude.{◌≡◌, ◌⊎◌, ℕ, ◌≤◌, Bool, true, false, not, ◌||◌, is_some, codes, List, ◌++◌, Option, Some, None}
 use Rattle.toml.specs.Data.{Members, get_member, members_depth}
 use Rattle.toml.specs.Parse.{parse_document}
 use Rattle.toml.specs.Text.{IsDocumentText}
@@ -92,13 +92,18 @@ alone_keys_sentence ms =
 
 -- whether a fault of a table is that of the keys of a policy alone, where one is unknown
 abbrev pub is_unknown_alone : Members → ConfigurationFault → Bool
-is_unknown_alone ms (BadKeys Other) = if is_whole ms then false else true
+is_unknown_alone ms (BadKeys Other) = not (is_whole ms)
 is_unknown_alone ms fault = false
 
--- the sentence on a fault of octets that write this table, if they write one
+-- the sentence on a fault of octets that write this table, by whether it is that one
+abbrev pub IsSentenceOf : Bool → Members → List ℕ → ConfigurationFault → List ℕ → Type 0
+IsSentenceOf true ms octets fault text = text ≡ alone_keys_sentence ms
+IsSentenceOf false ms octets fault text = IsSentenceIn octets fault text
+
+-- the same of octets that write this table, if they write one
 abbrev pub IsSentenceBy : Option Members → List ℕ → ConfigurationFault → List ℕ → Type 0
 IsSentenceBy (Some ms) octets fault text =
-    if is_unknown_alone ms fault then text ≡ alone_keys_sentence ms else IsSentenceIn octets fault text
+    IsSentenceOf (is_unknown_alone ms fault) ms octets fault text
 IsSentenceBy None octets fault text = IsSentenceIn octets fault text
 
 -- The sentence on this fault of the octets of a policy's file.
