@@ -1,5 +1,5 @@
 -- What the program does with a file, by what was read of it.
-use Rattle.std.proofs.Common.{ℕ, List, Option, Result, Vec}
+use Rattle.std.proofs.Common.{ℕ, List, Option, Result, Ok, Vec, inl}
 use Rattle.std.specs.Borrow.{Bor}
 use Rattle.std.specs.declared.alloc.Global.{Global}
 use Rattle.setphase_core.specs.Objects.{ObjectState}
@@ -11,7 +11,8 @@ use Rattle.agent_program.specs.declared.failure.Failure.{Failure}
 use Rattle.agent_words.specs.declared.asked.Lasting.{Lasting}
 use Rattle.agent_program.specs.Files.{IsReadWithin, IsReadOf, read_view}
 use Rattle.message_core.specs.declared.request.Request.{Request}
-use Rattle.agent_program.specs.Commands.{SendsRead, SendsFile}
+use Rattle.agent_words.specs.Orders.{policy}
+use Rattle.agent_program.specs.Commands.{IsSent, IsPolicyCommand, IsPolicyEnd, SendsRead, SendsFile}
 use Rattle.agent_program.specs.Explanations.{ExplainsRead, ExplainsFile}
 use Rattle.agent_program.specs.Reporting.{IsFileChecked, IsCheckOf}
 use Rattle.agent_program.specs.Services.{Service, OpensRead, OpensFile}
@@ -58,6 +59,15 @@ pub file_sent : {O : Type 0} (Gives : List ℕ → Result (List ℕ) NotRead →
     → SendsFile Gives Answers contents path file writer writer' ended
 file_sent Gives Answers contents path file read writer writer' ended within gave sends =
     record { read = read_view read; is = read_of Gives Policy file.now read within gave; sends = sends }
+
+pub policy_sent : {O : Type 0} (Answers : List ℕ → List ℕ → Result (List ℕ) NoAnswer → Type 0)
+    (contents : O → Option (List ℕ)) (path file : Bor (List ℕ)) (text octets : List ℕ) (writer writer' : O)
+    (answered ended : Result (Unit {0}) Failure) → IsPolicyCommand text octets
+    → IsSent Answers contents path (policy file.now) octets writer writer' answered
+    → IsPolicyEnd file text answered ended
+    → SendsRead Answers contents path file (Ok text) writer writer' ended
+policy_sent Answers contents path file text octets writer writer' answered ended command sent ends =
+    inl (record { octets = octets; command = command; answered = answered; sent = sent; ends = ends })
 
 pub file_served : (Gives : List ℕ → Result (List ℕ) NotRead → Type 0) (objects : List ObjectState)
     (lasting : Lasting) (file : List ℕ) (read : Result (Vec ℕ Global) NotRead)

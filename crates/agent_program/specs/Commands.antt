@@ -74,18 +74,23 @@ abbrev pub IsPolicyCommand : List ℕ → List ℕ → Type 0
 IsPolicyCommand text octets =
     (part : Option (List ℕ)) × IsPartIn text part × (octets ≡ policy_octets (part_or text part))
 
--- how the program ends behind the answer to a policy of these octets of a file: where the answer refuses
--- it, with the reason that the octets have
-abbrev pub IsPolicyFailure : Bor (List ℕ) → List ℕ → Failure → Failure → Type 0
-IsPolicyFailure file text (NotDone undone.Policy) failure =
-    (refusal : Refusal) × IsPolicyRefusal text refusal × (failure ≡ PolicyNotDone file refusal)
-IsPolicyFailure file text answered failure = failure ≡ answered
+-- whether a policy was refused, by how the program ends behind its answer
+abbrev pub is_policy_refused : Result (Unit {0}) Failure → Bool
+is_policy_refused (Err (NotDone undone.Policy)) = true
+is_policy_refused other = false
+
+-- how the program ends behind the answer to a policy of these octets of a file: where it is refused, with
+-- the reason that the octets have
+abbrev pub IsPolicyEndBy : Bool → Bor (List ℕ) → List ℕ → Result (Unit {0}) Failure
+    → Result (Unit {0}) Failure → Type 0
+IsPolicyEndBy true file text answered ended =
+    (refusal : Refusal) × IsPolicyRefusal text refusal × (ended ≡ Err (PolicyNotDone file refusal))
+IsPolicyEndBy false file text answered ended = ended ≡ answered
 
 abbrev pub IsPolicyEnd : Bor (List ℕ) → List ℕ → Result (Unit {0}) Failure
     → Result (Unit {0}) Failure → Type 0
-IsPolicyEnd file text (Ok done) ended = ended ≡ Ok done
-IsPolicyEnd file text (Err answered) ended =
-    (failure : Failure) × IsPolicyFailure file text answered failure × (ended ≡ Err failure)
+IsPolicyEnd file text answered ended =
+    IsPolicyEndBy (is_policy_refused answered) file text answered ended
 
 -- Whether a command may be answered without octets: a link may, by which no port sends.
 abbrev pub may_be_empty : Command → Bool

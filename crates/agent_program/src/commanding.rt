@@ -4,7 +4,7 @@ ghost use Rattle.control_socket.specs.Sent.{link_octets, policy_octets};
 ghost use Rattle.agent_words.specs.Orders.{order_view};
 ghost use Rattle.agent_program.specs.Files.{read_view};
 ghost use Rattle.agent_program.specs.declared.answering.NoAnswer.{NoAnswer};
-ghost use Rattle.agent_program.specs.Commands.{policy_failure, heard, answer_view, may_be_empty, IsPrinted, EndsBy, IsSent, IsPolicyCommand, IsPolicyEnd, SendsRead, SendsFile, SendsCommand};
+ghost use Rattle.agent_program.specs.Commands.{policy_failure, heard, answer_view, may_be_empty, IsPrinted, EndsBy, IsSent, IsPolicyCommand, is_policy_refused, IsPolicyEnd, SendsRead, SendsFile, SendsCommand};
 
 use crate::answering::{NoAnswer, Undone, undone_by};
 use crate::failure::{Failure, policy_refusal, write_out};
@@ -127,6 +127,13 @@ fn policy_command_of(alloc: Global, text: &[u8]) -> Result<Vec<u8>, AllocError>
     }
 }
 
+// Whether a policy was refused, by how the program ends behind its answer.
+fn is_policy_refused(answered: &Result<(), Failure<'_>>) -> bool
+    ensures { result ≡ is_policy_refused answered.now }
+{
+    matches!(answered, Err(Failure::NotDone(Undone::Policy)))
+}
+
 // How the program ends behind the answer to a policy of these octets of a file: where it is refused, with the
 // reason that the octets have.
 fn end_by_policy<'a>(
@@ -137,15 +144,15 @@ fn end_by_policy<'a>(
 ) -> Result<(), Failure<'a>>
     ensures { IsPolicyEnd file.entry text.now answered.entry result }
 {
-    match answered {
-        Err(Failure::NotDone(Undone::Policy)) => {
-            Err(Failure::PolicyNotDone(file, policy_refusal(alloc, text)))
-        }
-        answered => answered,
+    if is_policy_refused(&answered) {
+        Err(Failure::PolicyNotDone(file, policy_refusal(alloc, text)))
+    } else {
+        answered
     }
 }
 
 // Sends the policy of a file of these octets.
+#[tactic(auto, using(crate::proofs::FileLemmas::policy_sent))]
 fn send_policy<'a, F: AskAgent, O: Write>(
     alloc: Global,
     agents: &F,

@@ -21,7 +21,7 @@ abbrev pub has_key : List ℕ → Members → Bool
 has_key key ms = is_some (get_member key ms)
 
 -- the table is of a whole configuration: it has a key that a policy has not
-abbrev pub is_whole : Members → Bool
+unfoldable pub is_whole : Members → Bool
 is_whole ms =
     has_key (codes "address") ms || (has_key (codes "port") ms || has_key (codes "serve") ms)
 

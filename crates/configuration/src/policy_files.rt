@@ -1,8 +1,12 @@
 //! Reads the file of a policy: a policy alone, or a whole configuration with its policy.
-ghost use Rattle.std.specs.Prelude.{◌≡◌, ◌≢◌, IfOk, IfErr, true, option_map, string_bytes};
+ghost use Rattle.std.specs.Prelude.{◌≡◌, ◌≢◌, ◌≤◌, IfOk, IfErr, Some, true, false, option_map, string_bytes};
+ghost use Rattle.toml.specs.Data.{members_depth};
+ghost use Rattle.toml.specs.Parse.{parse_document};
+ghost use Rattle.toml.specs.Text.{IsDocumentText};
 ghost use Rattle.toml.specs.Errors.{IsBlank};
 ghost use Rattle.toml.specs.View.{table_view};
 ghost use Rattle.policy_text.specs.Texts.{HasContent};
+ghost use Rattle.configuration.specs.Configurations.{policy_members};
 ghost use Rattle.configuration.specs.Details.{members_in};
 ghost use Rattle.configuration.specs.PolicyFiles.{has_key, is_whole, SaysPolicy, HasFault, MayTakeMemory, IsPolicyText, IsPolicyTextFault, IsPolicyIn, IsPolicyFaultIn, IsPart, IsPartIn, alone_keys_sentence, is_unknown_alone, IsPolicySentenceIn};
 
@@ -24,6 +28,7 @@ fn has_key(table: &Table, key: &str) -> bool
 }
 
 // Whether a table is of a whole configuration: it has a key that a policy has not.
+#[tactic(auto, unfolding(crate::specs::PolicyFiles::is_whole))]
 fn is_whole(table: &Table) -> bool
     ensures { result ≡ is_whole (table_view table.now) }
 {
@@ -93,17 +98,28 @@ pub fn policy_file_in(alloc: Global, octets: &[u8]) -> Result<Policy, Configurat
     }
 }
 
-// The text of the policy of a configuration's octets. There is none where there is no memory for it, or where
-// they are no TOML document, which those of a configuration are.
-fn part_of(alloc: Global, octets: &[u8]) -> Result<String, AllocError>
-    ensures { IfOk result (λ text. IsPart octets.now (string_bytes text)) }
+// The text of the policy of a configuration's table. There is none where there is no memory for it.
+fn part_of_table(alloc: Global, table: Table) -> Result<String, AllocError>
+    ensures written { IfOk result (λ text.
+        IsDocumentText false (policy_members (table_view table)) (string_bytes text)) }
+    ensures reads_back { IfOk result (λ text.
+        members_depth (policy_members (table_view table)) ≤ 80
+        → parse_document (string_bytes text) ≡ Some (policy_members (table_view table))) }
 {
-    let Some(table) = table_of(alloc, octets)? else {
-        return Err(AllocError);
-    };
     match toml::table_to_string(alloc, &policy_table(table)) {
         Ok(text) => Ok(text),
         Err(_) => Err(AllocError),
+    }
+}
+
+// The same of a configuration's octets. There is none either where they are no TOML document, which those of a
+// configuration are.
+fn part_of(alloc: Global, octets: &[u8]) -> Result<String, AllocError>
+    ensures { IfOk result (λ text. IsPart octets.now (string_bytes text)) }
+{
+    match table_of(alloc, octets) {
+        Ok(Some(table)) => part_of_table(alloc, table),
+        Ok(None) | Err(_) => Err(AllocError),
     }
 }
 
@@ -117,7 +133,10 @@ pub fn policy_part_in(alloc: Global, octets: &[u8]) -> Result<Option<String>, Al
     ensures { IfOk result (λ part. IsPartIn octets.now (option_map string_bytes part)) }
 {
     match configuration_in(alloc, octets) {
-        Ok(_) => Ok(Some(part_of(alloc, octets)?)),
+        Ok(_) => match part_of(alloc, octets) {
+            Ok(part) => Ok(Some(part)),
+            Err(error) => Err(error),
+        },
         Err(ConfigurationFault::Memory) => Err(AllocError),
         Err(_) => Ok(None),
     }
@@ -147,10 +166,13 @@ pub fn policy_sentence_in(
 ) -> Result<String, AllocError>
     ensures { IfOk result (λ text. IsPolicySentenceIn octets.now fault (string_bytes text)) }
 {
-    match table_of(alloc, octets)? {
-        Some(table) if is_unknown_alone(&table, fault) => alone_keys_sentence(alloc, &table),
-        _ => sentence_in(alloc, octets, fault),
+    let Some(table) = table_of(alloc, octets)? else {
+        return sentence_in(alloc, octets, fault);
+    };
+    if is_unknown_alone(&table, fault) {
+        return alone_keys_sentence(alloc, &table);
     }
+    sentence_in(alloc, octets, fault)
 }
 
 // Whether a fault of a table is that of the keys of a policy alone, where one is unknown.
