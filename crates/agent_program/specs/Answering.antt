@@ -1,6 +1,5 @@
 -- Why a served agent did not do a command, or gave no answer.
-use Rattle.std.specs.Prelude.{ℕ, codes, is_some, if◌then◌else◌, List, Option, Some, None}
-use Rattle.std.specs.Str.{bytes_eq}
+use Rattle.std.specs.Prelude.{ℕ, codes, bytes_eq, is_some, if◌then◌else◌, List, Option, Some, None}
 use Rattle.std.specs.declared.io.ErrorKind.{ErrorKind}
 use Rattle.std.specs.declared.io.ErrorKind.TheVariants as kind
 use Rattle.rstp_settings.specs.declared.settings.TheConstants.{MAX_PORTS}

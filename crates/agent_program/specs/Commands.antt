@@ -31,10 +31,10 @@ policy_failure (FileTooLarge file limit) = TooLarge file limit
 
 -- how the program ends behind an answer to a command that was printed so: an answer that refuses the
 -- command is a failure
-abbrev pub refused_end : Option Undone → Result (Unit {0}) Failure → Result (Unit {0}) Failure
-refused_end None printed = printed
-refused_end (Some why) (Ok done) = Err (NotDone why)
-refused_end (Some why) (Err failure) = Err failure
+abbrev pub refused_end : Result (Unit {0}) Failure → Option Undone → Result (Unit {0}) Failure
+refused_end (Err failure) why = Err failure
+refused_end (Ok done) None = Ok done
+refused_end (Ok done) (Some why) = Err (NotDone why)
 
 -- An answer without octets is one only to a command that may be answered so.
 abbrev pub heard : Bool → Result (List ℕ) NoAnswer → Result (List ℕ) NoAnswer
@@ -54,7 +54,7 @@ module _ {O : Type 0} (contents : O → Option (List ℕ)) where
       (ended : Result (Unit {0}) Failure) : Type 0 where
     pub printed : Result (Unit {0}) Failure
     pub reported : IsReported contents answer writer writer' printed
-    pub is : ended ≡ refused_end (undone_by command answer) printed
+    pub is : ended ≡ refused_end printed (undone_by command answer)
 
   -- how the program ends by what the agent of a path answers to a command: without an answer nothing is
   -- written

@@ -51,9 +51,12 @@ fn print_answer<'a, O: Write>(
 ) -> Result<(), Failure<'a>>
     ensures { IsPrinted O.contents (order_view order.entry) answer.now writer.old writer.new result }
 {
-    match (write_out(answer, writer), undone_by(order, answer)) {
-        (Ok(()), Some(why)) => Err(Failure::NotDone(why)),
-        (printed, _) => printed,
+    match write_out(answer, writer) {
+        Ok(()) => match undone_by(order, answer) {
+            Some(why) => Err(Failure::NotDone(why)),
+            None => Ok(()),
+        },
+        Err(failure) => Err(failure),
     }
 }
 
@@ -85,8 +88,9 @@ fn heard(may_be_empty: bool, answer: Result<Vec<u8>, NoAnswer>) -> Result<Vec<u8
     ensures { answer_view result ≡ heard may_be_empty (answer_view answer) }
 {
     match answer {
-        Ok(answer) if !may_be_empty && answer.is_empty() => Err(NoAnswer::Ended),
-        answer => answer,
+        Ok(answer) if may_be_empty || !answer.is_empty() => Ok(answer),
+        Ok(_) => Err(NoAnswer::Ended),
+        Err(why) => Err(why),
     }
 }
 
