@@ -3,7 +3,7 @@ use crate::clock::SetClock;
 use std::alloc::Global;
 use std::sync::Arc;
 use std::test::*;
-use wire_core::{MissedSeconds, Pace, WholeSecondPace};
+use wire_core::{MissedSeconds, Pace, SecondPace, WholeSecondPace};
 
 // A pace that starts now by this clock, and the seconds that it misses.
 fn pace_by(
@@ -88,5 +88,15 @@ fn clock_may_fail(rt: HostRuntime) -> Result<(), Fail> {
     clock.stop();
     let is_refused = WholeSecondPace::new(&clock, Arc::try_clone(&missed)?).is_err();
     assert_eq!(rt; (is_refused, slept(&mut pace, &clock)?), (true, 1000));
+    Ok(())
+}
+
+// A pace of seconds waits for one each time.
+#[test]
+fn pace_of_seconds_waits_for_one(rt: HostRuntime) -> Result<(), Fail> {
+    let clock = SetClock::at(0);
+    let mut pace = SecondPace::new(&clock);
+    let first = slept(&mut pace, &clock)?;
+    assert_eq!(rt; (first, slept(&mut pace, &clock)?), (1000, 1000));
     Ok(())
 }
