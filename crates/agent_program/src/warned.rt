@@ -29,11 +29,7 @@ fn add_lines(alloc: Global, warnings: &[Warning], text: &mut Vec<u8>) -> Result<
 ///
 /// # Errors
 /// `AllocError` where there is no memory for them.
-pub fn warned_text(
-    alloc: Global,
-    line: &[u8],
-    warnings: &[Warning],
-) -> Result<Vec<u8>, AllocError>
+pub fn warned_text(alloc: Global, line: &[u8], warnings: &[Warning]) -> Result<Vec<u8>, AllocError>
     ensures { IfOk result (λ text. text.items ≡ warned_text line.now warnings.now) }
 {
     let mut text = Vec::new(alloc);
