@@ -67,7 +67,7 @@ fn end_by<'a, O: Write>(
     answer: Result<Vec<u8>, NoAnswer>,
     writer: &mut O,
 ) -> Result<(), Failure<'a>>
-    ensures { EndsBy O.contents path.entry (order_view order.entry) (answer_view answer.entry) writer.old
+    ensures { EndsBy O.contents path.entry (order_view order.entry) (answer_view answer) writer.old
         writer.new result }
 {
     match answer {
