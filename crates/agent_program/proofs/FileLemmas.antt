@@ -13,8 +13,8 @@ use Rattle.agent_program.specs.Files.{IsReadWithin, IsReadOf, read_view}
 use Rattle.message_core.specs.declared.request.Request.{Request}
 use Rattle.agent_words.specs.Orders.{policy}
 use Rattle.agent_program.specs.Commands.{IsSent, IsPolicyCommand, IsPolicyEnd, SendsRead, SendsFile}
-use Rattle.agent_program.specs.Explanations.{ExplainsRead, ExplainsFile}
-use Rattle.agent_program.specs.Reporting.{IsFileChecked, IsCheckOf}
+use Rattle.agent_program.specs.Explanations.{ExplainsRead, ExplainsFile, ExplainsPolicyRead, ExplainsPolicyFile}
+use Rattle.agent_program.specs.Reporting.{IsFileChecked, IsCheckOf, IsPolicyFileChecked, IsPolicyCheckOf}
 use Rattle.agent_program.specs.Services.{Service, OpensRead, OpensFile}
 use Rattle.agent_program.specs.Programs.{RunsRead, RunsFile}
 
@@ -41,6 +41,25 @@ pub file_check : {O : Type 0} (Gives : List ℕ → Result (List ℕ) NotRead �
     → IsCheckOf Gives contents file writer writer' ended
 file_check Gives contents file read writer writer' ended within gave checked =
     record { read = read_view read; is = read_of Gives Configuration file read within gave; checked = checked }
+
+pub file_policy_check : {O : Type 0} (Gives : List ℕ → Result (List ℕ) NotRead → Type 0)
+    (contents : O → Option (List ℕ)) (file : List ℕ) (read : Result (Vec ℕ Global) NotRead)
+    (writer writer' : O) (ended : Result (Unit {0}) Failure)
+    → IsReadWithin file Policy (read_view read) → Gives file (read_view read)
+    → IsPolicyFileChecked contents (read_view read) writer writer' ended
+    → IsPolicyCheckOf Gives contents file writer writer' ended
+file_policy_check Gives contents file read writer writer' ended within gave checked =
+    record { read = read_view read; is = read_of Gives Policy file read within gave; checked = checked }
+
+pub file_policy_explained : {O : Type 0} (Gives : List ℕ → Result (List ℕ) NotRead → Type 0)
+    (contents : O → Option (List ℕ)) (request : Request) (file : Bor (List ℕ))
+    (read : Result (Vec ℕ Global) NotRead) (writer writer' : O)
+    (ended : Result (Unit {0}) Failure) → IsReadWithin file.now Policy (read_view read)
+    → Gives file.now (read_view read)
+    → ExplainsPolicyRead contents request file (read_view read) writer writer' ended
+    → ExplainsPolicyFile Gives contents request file writer writer' ended
+file_policy_explained Gives contents request file read writer writer' ended within gave explains =
+    record { read = read_view read; is = read_of Gives Policy file.now read within gave; explains = explains }
 
 pub file_explained : {O : Type 0} (Gives : List ℕ → Result (List ℕ) NotRead → Type 0)
     (contents : O → Option (List ℕ)) (request : Request) (file : List ℕ)

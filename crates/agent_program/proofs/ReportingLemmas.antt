@@ -2,7 +2,7 @@
 use Rattle.std.proofs.Common.{ℕ, List, Option}
 use Rattle.configuration.specs.declared.fault.ConfigurationFault.{ConfigurationFault}
 use Rattle.agent_program.specs.declared.failure.Failure.{Failure}
-use Rattle.agent_program.specs.declared.failure.Failure.TheVariants.{NotText, NoName, CannotRead, TooLarge, Refused, RefusedFor, Input, Output, Unanswered, NotDone, PolicyNotDone, Run as RunFailed}
+use Rattle.agent_program.specs.declared.failure.Failure.TheVariants.{NotText, NoName, CannotRead, TooLarge, Refused, RefusedFor, Input, Output, Unanswered, NotDone, PolicyNotDone, PolicyRefused, PolicyRefusedFor, Run as RunFailed}
 use Rattle.agent_program.specs.Reporting.{IsFaultText, IsCutOff, IsFaultReported}
 
 -- a sentence that was cut off
@@ -19,4 +19,6 @@ cut_reported contents octets fault text writer writer' Output stated cut = recor
 cut_reported contents octets fault text writer writer' (Unanswered path why) stated cut = absurd cut
 cut_reported contents octets fault text writer writer' (NotDone why) stated cut = absurd cut
 cut_reported contents octets fault text writer writer' (PolicyNotDone file refusal) stated cut = absurd cut
+cut_reported contents octets fault text writer writer' PolicyRefused stated cut = absurd cut
+cut_reported contents octets fault text writer writer' (PolicyRefusedFor file refusal) stated cut = absurd cut
 cut_reported contents octets fault text writer writer' RunFailed stated cut = absurd cut

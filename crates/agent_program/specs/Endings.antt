@@ -18,7 +18,7 @@ use Rattle.explain.specs.declared.questions.QuestionFault.{QuestionFault}
 use Rattle.explain.specs.declared.questions.QuestionFault.TheVariants.{Memory as NoQuestionMemory, Name}
 use Rattle.agent_program.specs.declared.reporting.NotTaken.{NotTaken}
 use Rattle.agent_program.specs.declared.failure.Failure.{Failure}
-use Rattle.agent_program.specs.declared.failure.Failure.TheVariants.{NotText, NoName, CannotRead, TooLarge, Refused, RefusedFor, Input, Output, Unanswered, NotDone, PolicyNotDone, Run as RunFailed}
+use Rattle.agent_program.specs.declared.failure.Failure.TheVariants.{NotText, NoName, CannotRead, TooLarge, Refused, RefusedFor, Input, Output, Unanswered, NotDone, PolicyNotDone, PolicyRefused, PolicyRefusedFor, Run as RunFailed}
 use Rattle.agent_program.specs.declared.answering.NoAnswer.{NoAnswer}
 use Rattle.agent_program.specs.declared.answering.NoAnswer.TheVariants as unanswered
 use Rattle.agent_program.specs.declared.answering.Undone.{Undone}
@@ -26,8 +26,8 @@ use Rattle.agent_program.specs.declared.answering.Undone.TheVariants as undone
 use Rattle.agent_program.specs.declared.failure.Refusal.{Refusal}
 use Rattle.agent_program.specs.declared.failure.Refusal.TheVariants as refused
 
--- the exit status: 2 for a word that is no text and for a configuration that cannot be read or is
--- refused, 1 for what failed in a run
+-- the exit status: 2 for a word that is no text and for a configuration or a policy that cannot be read or
+-- is refused, 1 for what failed in a run
 abbrev pub failure_status : Failure → ℕ
 failure_status NotText = 2
 failure_status (NoName word) = 2
@@ -40,6 +40,8 @@ failure_status Output = 1
 failure_status (Unanswered path why) = 1
 failure_status (NotDone why) = 1
 failure_status (PolicyNotDone file refusal) = 1
+failure_status PolicyRefused = 2
+failure_status (PolicyRefusedFor file refusal) = 2
 failure_status RunFailed = 1
 
 abbrev pub status_of : {A : Type 0} → Result A Failure → ℕ
@@ -59,6 +61,8 @@ failure_words Output = codes "output failed"
 failure_words (Unanswered path why) = codes "no answer"
 failure_words (NotDone why) = codes "command refused"
 failure_words (PolicyNotDone file refusal) = codes "command refused"
+failure_words PolicyRefused = codes "policy refused"
+failure_words (PolicyRefusedFor file refusal) = codes "policy refused"
 failure_words RunFailed = codes "run failed"
 
 abbrev pub failure_name : Failure → List ℕ
@@ -73,6 +77,8 @@ failure_name Output = []
 failure_name (Unanswered path why) = []
 failure_name (NotDone why) = []
 failure_name (PolicyNotDone file refusal) = []
+failure_name PolicyRefused = []
+failure_name (PolicyRefusedFor file refusal) = []
 failure_name RunFailed = []
 
 -- the line that says of a file how many octets it may have
@@ -151,6 +157,8 @@ second_line Output = []
 second_line (Unanswered path why) = cause_line path.now (no_answer_words why)
 second_line (NotDone why) = undone_line why
 second_line (PolicyNotDone file refusal) = cause_line file.now (refusal_words refusal)
+second_line PolicyRefused = []
+second_line (PolicyRefusedFor file refusal) = cause_line file.now (refusal_words refusal)
 second_line RunFailed = []
 
 -- its line, and behind it the second, where there is one
@@ -194,6 +202,12 @@ abbrev pub read_failure : NotRead → Failure
 read_failure (FileMemory file) = RefusedFor file refused.Memory
 read_failure (Unreadable file reason) = CannotRead file reason
 read_failure (FileTooLarge file limit) = TooLarge file limit
+
+-- the file of a policy that was not read, as a failure of the program
+abbrev pub policy_read_failure : NotRead → Failure
+policy_read_failure (FileMemory file) = PolicyRefusedFor file refused.Memory
+policy_read_failure (Unreadable file reason) = CannotRead file reason
+policy_read_failure (FileTooLarge file limit) = TooLarge file limit
 
 -- words that make no request, as a failure of the program
 abbrev pub question_failure : QuestionFault → Failure

@@ -11,7 +11,7 @@ use Rattle.agent_program.specs.declared.answering.NoAnswer.{NoAnswer}
 use Rattle.agent_program.specs.declared.failure.Failure.{Failure}
 use Rattle.agent_program.specs.declared.failure.Ended.{Ended}
 use Rattle.agent_words.specs.declared.asked.Asked.{Asked}
-use Rattle.agent_words.specs.declared.asked.Asked.TheVariants.{BuiltIn, Script, Check, Serve, Explain, Tell}
+use Rattle.agent_words.specs.declared.asked.Asked.TheVariants.{BuiltIn, Script, Check, CheckPolicy, Serve, Explain, ExplainPolicy, Tell}
 use Rattle.agent_words.specs.declared.asked.Lasting.{Lasting}
 use Rattle.agent_words.specs.Asking.{Inquiry, question_view}
 use Rattle.agent_words.specs.declared.asked.Order.{Order}
@@ -20,9 +20,9 @@ use Rattle.agent_program.specs.Endings.{status_of, stated_of, read_failure, IsLi
 use Rattle.agent_program.specs.Refusals.{EndsBy}
 use Rattle.agent_program.specs.Runs.{IsUntouched, IsRunBy}
 use Rattle.agent_program.specs.Services.{Service, OpensFile}
-use Rattle.agent_program.specs.Reporting.{IsCheckOf}
+use Rattle.agent_program.specs.Reporting.{IsCheckOf, IsPolicyCheckOf}
 use Rattle.agent_program.specs.Commands.{SendsCommand}
-use Rattle.agent_program.specs.Explanations.{IsExplanation}
+use Rattle.agent_program.specs.Explanations.{IsExplanation, IsPolicyExplanation}
 
 -- an end that leaves nothing to be served
 abbrev pub nothing_left : Result (Unit {0}) Failure → Result (Option Service) Failure
@@ -81,6 +81,19 @@ module _ {I O : Type 0} (Gives : List ℕ → Result (List ℕ) NotRead → Type
     pub unread : reader' ≡ reader
     pub checked : IsCheckOf Gives contents file writer writer' ended
 
+  -- the same of a policy
+  pub record ChecksPolicy (file : List ℕ) (reader reader' : I) (writer writer' : O)
+      (ended : Result (Unit {0}) Failure) : Type 0 where
+    pub unread : reader' ≡ reader
+    pub checked : IsPolicyCheckOf Gives contents file writer writer' ended
+
+  -- the program stated what the policy of a file decides on the request that was asked about, and read
+  -- nothing else
+  pub record ExplainsPolicy (inquiry : Inquiry) (file : Bor (List ℕ)) (reader reader' : I) (writer writer' : O)
+      (ended : Result (Unit {0}) Failure) : Type 0 where
+    pub unread : reader' ≡ reader
+    pub explained : IsPolicyExplanation Gives contents inquiry file writer writer' ended
+
   -- the program stated what a file's policy decides on the request that was asked about, and read
   -- nothing else
   pub record Explains (inquiry : Inquiry) (file : List ℕ) (reader reader' : I) (writer writer' : O)
@@ -112,10 +125,15 @@ module _ {I O : Type 0} (Gives : List ℕ → Result (List ℕ) NotRead → Type
       (RunsFile Gives objects remaining contents file.now reader reader' writer writer') done
   Does (Check file) reader reader' writer writer' done = HasDone
       (ChecksFile Gives objects remaining contents file.now reader reader' writer writer') done
+  Does (CheckPolicy file) reader reader' writer writer' done = HasDone
+      (ChecksPolicy Gives objects remaining contents file.now reader reader' writer writer') done
   Does (Serve file lasting) reader reader' writer writer' done =
       ServesFile Gives objects remaining contents file.now lasting reader reader' writer writer' done
   Does (Explain file question) reader reader' writer writer' done = HasDone
       (Explains Gives objects remaining contents (question_view question) file.now reader reader'
+      writer writer') done
+  Does (ExplainPolicy file question) reader reader' writer writer' done = HasDone
+      (ExplainsPolicy Gives objects remaining contents (question_view question) file reader reader'
       writer writer') done
   Does (Tell path order) reader reader' writer writer' done =
       HasDone (Commands path order reader reader' writer writer') done

@@ -1,5 +1,5 @@
 -- Why the octets of a configuration were not run or served, as a failure of the program.
-use Rattle.std.specs.Prelude.{◌≡◌, ℕ, List, Option, Some, None, Result, Ok, Err, option_map, string_bytes}
+use Rattle.std.specs.Prelude.{◌≡◌, ◌⊎◌, ℕ, List, Option, Some, None, Result, Ok, Err, option_map, string_bytes}
 use Rattle.std.specs.Borrow.{Bor}
 use Rattle.agent_script.specs.declared.session.ScriptEnd.{ScriptEnd}
 use Rattle.configuration.specs.declared.fault.ConfigurationFault.{ConfigurationFault}
@@ -23,17 +23,23 @@ IsRefusalOf octets fault refused.Memory = ⊥
 IsRefusalOf octets fault (refused.Unserved why) = ⊥
 IsRefusalOf octets fault refused.ByAgent = ⊥
 
--- the policy of a file of these octets is refused for this: by the sentence on its first fault, for which
--- there may be no memory, as for the policy; or it has none, and the agent refused it all the same
-abbrev pub IsPolicyRefusal : List ℕ → Refusal → Type 0
-IsPolicyRefusal octets (refused.Fault sentence) =
+-- the octets of a policy's file say none, and are refused for this: by the sentence on their first fault,
+-- for which there may be no memory, as for the policy
+abbrev pub IsPolicyWrong : List ℕ → Refusal → Type 0
+IsPolicyWrong octets (refused.Fault sentence) =
     (fault : ConfigurationFault) × IsPolicyFaultIn octets fault
     × IsPolicySentenceIn octets fault (string_bytes sentence)
-IsPolicyRefusal octets refused.NoSentence =
+IsPolicyWrong octets refused.NoSentence =
     (fault : ConfigurationFault) × IsPolicyFaultIn octets fault
-IsPolicyRefusal octets refused.Memory = HasContent octets
-IsPolicyRefusal octets (refused.Unserved why) = ⊥
-IsPolicyRefusal octets refused.ByAgent = (policy : PolicyTables) × IsPolicyIn octets policy
+IsPolicyWrong octets refused.Memory = HasContent octets
+IsPolicyWrong octets (refused.Unserved why) = ⊥
+IsPolicyWrong octets refused.ByAgent = ⊥
+
+-- an agent refused the octets of a policy's file for this: they say none, or all the same
+abbrev pub IsPolicyRefusal : List ℕ → Refusal → Type 0
+IsPolicyRefusal octets refusal =
+    IsPolicyWrong octets refusal
+    ⊎ ((refusal ≡ refused.ByAgent) × (policy : PolicyTables) × IsPolicyIn octets policy)
 
 -- the configuration of this file, if of one, is refused, and this is why
 pub record IsRefusedFor (file : Option (List ℕ)) (Why : Refusal → Type 0) (failure : Failure) : Type 0 where

@@ -6,7 +6,9 @@ use Rattle.configuration.specs.declared.configuration.Configuration.{Configurati
 use Rattle.configuration.specs.declared.fault.ConfigurationFault.{ConfigurationFault}
 use Rattle.configuration.specs.declared.fault.ConfigurationFault.TheVariants.{Memory}
 use Rattle.configuration.specs.Configurations.{IsConfigurationIn, IsFaultIn}
+use Rattle.community_core.specs.Communities.{PolicyTables}
 use Rattle.configuration.specs.Details.{IsSentenceIn}
+use Rattle.configuration.specs.PolicyFiles.{IsPolicyIn, IsPolicyFaultIn, IsPolicySentenceIn}
 use Rattle.configuration.specs.Warnings.{warnings_of}
 use Rattle.udp_agent.specs.Setups.{IsUnserved}
 use Rattle.udp_agent.specs.declared.setup.Unserved.{Unserved}
@@ -15,7 +17,7 @@ use Rattle.agent_program.specs.declared.files.FileLimit.TheVariants as limit
 use Rattle.agent_program.specs.declared.files.NotRead.{NotRead}
 use Rattle.agent_program.specs.declared.files.NotRead.TheVariants.{Memory as FileMemory, Unreadable, TooLarge as FileTooLarge}
 use Rattle.agent_program.specs.declared.failure.Failure.{Failure}
-use Rattle.agent_program.specs.declared.failure.Failure.TheVariants.{NotText, NoName, CannotRead, TooLarge, Refused, RefusedFor, Input, Output, Unanswered, NotDone, PolicyNotDone, Run as RunFailed}
+use Rattle.agent_program.specs.declared.failure.Failure.TheVariants.{NotText, NoName, CannotRead, TooLarge, Refused, RefusedFor, Input, Output, Unanswered, NotDone, PolicyNotDone, PolicyRefused, PolicyRefusedFor, Run as RunFailed}
 use Rattle.agent_program.specs.Endings.{TakesFront}
 use Rattle.agent_program.specs.Files.{IsReadOf}
 use Rattle.agent_program.specs.Warned.{warned_text}
@@ -67,6 +69,8 @@ module _ {O : Type 0} (contents : O → Option (List ℕ)) where
   IsCutOff text writer writer' (Unanswered path why) = ⊥
   IsCutOff text writer writer' (NotDone why) = ⊥
   IsCutOff text writer writer' (PolicyNotDone file refusal) = ⊥
+  IsCutOff text writer writer' PolicyRefused = ⊥
+  IsCutOff text writer writer' (PolicyRefusedFor file refusal) = ⊥
   IsCutOff text writer writer' RunFailed = ⊥
 
   -- This text was written, or a front of it until the output failed.
@@ -90,6 +94,8 @@ module _ {O : Type 0} (contents : O → Option (List ℕ)) where
   IsFaultReported octets fault writer writer' (Unanswered path why) = ⊥
   IsFaultReported octets fault writer writer' (NotDone why) = ⊥
   IsFaultReported octets fault writer writer' (PolicyNotDone file refusal) = ⊥
+  IsFaultReported octets fault writer writer' PolicyRefused = ⊥
+  IsFaultReported octets fault writer writer' (PolicyRefusedFor file refusal) = ⊥
   IsFaultReported octets fault writer writer' RunFailed = writer' ≡ writer
 
   -- the octets are no configuration, and that is reported
@@ -140,6 +146,81 @@ module _ {O : Type 0} (contents : O → Option (List ℕ)) where
   IsFileChecked (Err (FileTooLarge file limit)) writer writer' ended =
       (ended ≡ Err (TooLarge file limit)) × (writer' ≡ writer)
 
+-- ---- a policy
+
+-- what is stated of a policy: a served agent may be given it
+abbrev pub policy_ok_text : List ℕ
+policy_ok_text = codes "policy ok for tell and explain\n"
+
+-- this is the first fault of the octets of a policy's file, unless it is want of memory
+abbrev pub IsPolicyFaultFound : List ℕ → ConfigurationFault → Type 0
+IsPolicyFaultFound octets fault =
+    (fault ≢ Memory → IsPolicyFaultIn octets fault) × (fault ≡ Memory → HasContent octets)
+
+-- this is stated of a fault of the octets of a policy's file: its sentence, as a line
+pub record IsPolicyFaultText (octets : List ℕ) (fault : ConfigurationFault) (text : List ℕ) : Type 0 where
+  pub sentence : List ℕ
+  pub on_fault : IsPolicySentenceIn octets fault sentence
+  pub is : text ≡ sentence ++ codes "\n"
+
+-- how the program ends behind the text on a fault: the policy is refused, unless the output failed
+abbrev pub refused_policy : Result (Unit {0}) Failure → Failure
+refused_policy (Ok done) = PolicyRefused
+refused_policy (Err failure) = failure
+
+module _ {O : Type 0} (contents : O → Option (List ℕ)) where
+  -- the text on a fault of the octets of a policy's file was written, whole or until the output failed
+  pub record IsPolicyFaultWritten (octets : List ℕ) (fault : ConfigurationFault) (writer writer' : O)
+      (failure : Failure) : Type 0 where
+    pub text : List ℕ
+    pub on_fault : IsPolicyFaultText octets fault text
+    pub printed : Result (Unit {0}) Failure
+    pub reported : IsReported contents text writer writer' printed
+    pub is : failure ≡ refused_policy printed
+
+  -- the same, or there was no memory for its sentence, and nothing was written
+  abbrev pub IsPolicyFaultReported : List ℕ → ConfigurationFault → O → O → Failure → Type 0
+  IsPolicyFaultReported octets fault writer writer' failure =
+      IsPolicyFaultWritten octets fault writer writer' failure
+      ⊎ ((failure ≡ RunFailed) × (writer' ≡ writer))
+
+  -- the octets say a policy, and that is reported, whole or until the output failed
+  pub record IsPolicyReported (octets : List ℕ) (writer writer' : O) (ended : Result (Unit {0}) Failure)
+      : Type 0 where
+    pub policy : PolicyTables
+    pub stated : IsPolicyIn octets policy
+    pub reported : IsReported contents policy_ok_text writer writer' ended
+
+  -- the octets say no policy, and that is reported
+  pub record IsNoPolicyReported (octets : List ℕ) (writer writer' : O)
+      (ended : Result (Unit {0}) Failure) : Type 0 where
+    pub fault : ConfigurationFault
+    pub found : IsPolicyFaultFound octets fault
+    pub failure : Failure
+    pub reported : IsPolicyFaultReported octets fault writer writer' failure
+    pub is : ended ≡ Err failure
+
+  -- What a check of the octets of a policy's file amounts to.
+  abbrev pub IsPolicyChecked : List ℕ → O → O → Result (Unit {0}) Failure → Type 0
+  IsPolicyChecked octets writer writer' ended =
+      IsPolicyReported octets writer writer' ended ⊎ IsNoPolicyReported octets writer writer' ended
+
+  -- there was no memory to read a policy, and that is reported
+  pub record IsPolicyWantReported (writer writer' : O) (ended : Result (Unit {0}) Failure) : Type 0 where
+    pub failure : Failure
+    pub reported : IsPolicyFaultReported [] Memory writer writer' failure
+    pub is : ended ≡ Err failure
+
+  -- What a check of what was read of a policy's file amounts to.
+  abbrev pub IsPolicyFileChecked : Result (List ℕ) NotRead → O → O → Result (Unit {0}) Failure → Type 0
+  IsPolicyFileChecked (Ok octets) writer writer' ended = IsPolicyChecked octets writer writer' ended
+  IsPolicyFileChecked (Err (FileMemory file)) writer writer' ended =
+      IsPolicyWantReported writer writer' ended
+  IsPolicyFileChecked (Err (Unreadable file reason)) writer writer' ended =
+      (ended ≡ Err (CannotRead file reason)) × (writer' ≡ writer)
+  IsPolicyFileChecked (Err (FileTooLarge file limit)) writer writer' ended =
+      (ended ≡ Err (TooLarge file limit)) × (writer' ≡ writer)
+
 -- A reader of files, by what a read of the file of a name may give, and a writer.
 module _ {O : Type 0} (Gives : List ℕ → Result (List ℕ) NotRead → Type 0)
     (contents : O → Option (List ℕ)) where
@@ -149,3 +230,10 @@ module _ {O : Type 0} (Gives : List ℕ → Result (List ℕ) NotRead → Type 0
     pub read : Result (List ℕ) NotRead
     pub is : IsReadOf Gives limit.Configuration file read
     pub checked : IsFileChecked contents read writer writer' ended
+
+  -- a file was read, or not, and it was reported whether what was read of it says a policy
+  pub record IsPolicyCheckOf (file : List ℕ) (writer writer' : O) (ended : Result (Unit {0}) Failure)
+      : Type 0 where
+    pub read : Result (List ℕ) NotRead
+    pub is : IsReadOf Gives limit.Policy file read
+    pub checked : IsPolicyFileChecked contents read writer writer' ended

@@ -13,8 +13,8 @@ use message_core::{Kind, Request};
 use std::alloc::Global;
 use std::io::Write;
 
-// The PDU type of what a request does.
-fn kind_by(operation: Operation) -> Kind
+/// The PDU type of what a request does.
+pub(crate) fn kind_by(operation: Operation) -> Kind
     ensures { result ≡ kind_by operation }
 {
     match operation {

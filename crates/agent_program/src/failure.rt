@@ -2,9 +2,9 @@
 ghost use Rattle.std.specs.Prelude.{◌≡◌, OnOk, option_map};
 ghost use Rattle.std.specs.Io.KnownBytes.{Appends};
 ghost use Rattle.std.specs.IoError.{error_kind};
-ghost use Rattle.agent_program.specs.Reporting.{IsReported};
+ghost use Rattle.agent_program.specs.Reporting.{IsReported, IsPolicyFaultFound};
 ghost use Rattle.agent_program.specs.Endings.{failure_status, failure_words, failure_name, reason_words, refusal_words, limit_line, cause_line, first_line, second_line, failure_line, refused_for, words_failure, run_failure, read_failure, question_failure, answered_status, answered_line, TakesFront, IsLineTaken};
-ghost use Rattle.agent_program.specs.Refusals.{IsRefusalOf, IsPolicyRefusal, IsFailureOf};
+ghost use Rattle.agent_program.specs.Refusals.{IsRefusalOf, IsPolicyWrong, IsPolicyRefusal, IsFailureOf};
 ghost use Rattle.configuration.specs.PolicyFiles.{IsPolicyFaultIn};
 
 use crate::answering::{NoAnswer, Undone};
@@ -71,6 +71,10 @@ pub enum Failure<'a> {
     NotDone(Undone),
     /// The agent refused the policy of this file, as its answer says, for this reason.
     PolicyNotDone(&'a str, Refusal),
+    /// The file of a policy says none, or there was no memory for it, and a check stated why.
+    PolicyRefused,
+    /// The policy of this file is none, or there is no memory for it.
+    PolicyRefusedFor(&'a str, Refusal),
     /// The run found no memory for its own lines and lists, or what was to be served was not, or
     /// failed.
     Run,
@@ -112,11 +116,22 @@ fn fault_refusal(alloc: Global, octets: &[u8], fault: ConfigurationFault) -> Ref
 // Why the octets of a policy's file are refused that have this first fault.
 fn policy_fault_refusal(alloc: Global, octets: &[u8], fault: ConfigurationFault) -> Refusal
     requires { IsPolicyFaultIn octets.now fault }
-    ensures { IsPolicyRefusal octets.now result }
+    ensures { IsPolicyWrong octets.now result }
 {
     match policy_sentence_in(alloc, octets, fault) {
         Ok(sentence) => Refusal::Fault(sentence),
         Err(_) => Refusal::NoSentence,
+    }
+}
+
+/// Why the octets of a policy's file are refused that have this first fault, or for which there was no memory.
+pub fn wrong_policy(alloc: Global, octets: &[u8], fault: ConfigurationFault) -> Refusal
+    requires { IsPolicyFaultFound octets.now fault }
+    ensures { IsPolicyWrong octets.now result }
+{
+    match fault {
+        ConfigurationFault::Memory => Refusal::Memory,
+        fault => policy_fault_refusal(alloc, octets, fault),
     }
 }
 
@@ -126,8 +141,7 @@ pub fn policy_refusal(alloc: Global, octets: &[u8]) -> Refusal
 {
     match policy_file_in(alloc, octets) {
         Ok(_) => Refusal::ByAgent,
-        Err(ConfigurationFault::Memory) => Refusal::Memory,
-        Err(fault) => policy_fault_refusal(alloc, octets, fault),
+        Err(fault) => wrong_policy(alloc, octets, fault),
     }
 }
 
@@ -193,7 +207,9 @@ impl Failure<'_> {
             | Failure::CannotRead(_, _)
             | Failure::TooLarge(_, _)
             | Failure::Refused
-            | Failure::RefusedFor(_, _) => USAGE,
+            | Failure::RefusedFor(_, _)
+            | Failure::PolicyRefused
+            | Failure::PolicyRefusedFor(_, _) => USAGE,
             Failure::Input
             | Failure::Output
             | Failure::Unanswered(_, _)
@@ -212,6 +228,7 @@ impl Failure<'_> {
             Failure::NoName(_) => b"no object identifier: ",
             Failure::CannotRead(_, _) | Failure::TooLarge(_, _) => b"cannot read ",
             Failure::Refused | Failure::RefusedFor(_, _) => b"configuration refused",
+            Failure::PolicyRefused | Failure::PolicyRefusedFor(_, _) => b"policy refused",
             Failure::Input => b"input failed",
             Failure::Output => b"output failed",
             Failure::Unanswered(_, _) => b"no answer",
@@ -235,6 +252,8 @@ impl Failure<'_> {
             | Failure::Unanswered(_, _)
             | Failure::NotDone(_)
             | Failure::PolicyNotDone(_, _)
+            | Failure::PolicyRefused
+            | Failure::PolicyRefusedFor(_, _)
             | Failure::Run => b"",
         }
     }
@@ -330,7 +349,9 @@ fn write_second<E: Write>(failure: &Failure<'_>, errors: &mut E) -> Result<(), N
             write_cause(file.as_bytes(), reason_words(*reason), errors)
         }
         Failure::TooLarge(_, limit) => write_front(errors, limit_line(*limit)),
-        Failure::RefusedFor(file, refusal) | Failure::PolicyNotDone(file, refusal) => {
+        Failure::RefusedFor(file, refusal)
+        | Failure::PolicyNotDone(file, refusal)
+        | Failure::PolicyRefusedFor(file, refusal) => {
             write_cause(file.as_bytes(), refusal.words(), errors)
         }
         Failure::Unanswered(path, why) => write_cause(path.as_bytes(), why.words(), errors),
@@ -338,6 +359,7 @@ fn write_second<E: Write>(failure: &Failure<'_>, errors: &mut E) -> Result<(), N
         Failure::NotText
         | Failure::NoName(_)
         | Failure::Refused
+        | Failure::PolicyRefused
         | Failure::Input
         | Failure::Output
         | Failure::Run => write_front(errors, b""),

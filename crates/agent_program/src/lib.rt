@@ -10,7 +10,8 @@
 //! [`SystemFiles`] those of the system. [`run_octets`] runs the
 //! script over objects by the octets of a configuration, and refuses octets that say none, or objects
 //! that make no registry, before it reads or writes; [`NotRun`] says why there was no run to the end.
-//! [`check_octets`] reports whether octets are one, [`check_read`] whether what was read of a file is.
+//! [`check_octets`] reports whether octets are one, [`check_read`] whether what was read of a file is;
+//! [`check_policy`] and [`check_policy_read`] the same of a policy.
 //! [`warned_text`] is a line and behind it the warnings of a configuration, [`log_warnings`] logs them.
 //! [`open_service`] gives what octets say is to be served, [`serve_opened`] serves it for its rounds,
 //! and [`serve_opened_forever`] without an end. [`collect_words`] has the words of a command line as
@@ -39,9 +40,11 @@
 
 mod answering;
 mod checking;
+mod checking_policies;
 mod collecting;
 mod commanding;
 mod explaining;
+mod explaining_policies;
 mod failure;
 mod files;
 mod opening;
@@ -53,6 +56,7 @@ mod warned;
 
 pub use answering::{NoAnswer, Undone};
 pub use checking::{check_octets, check_read};
+pub use checking_policies::{check_policy, check_policy_read};
 pub use collecting::collect_words;
 pub use commanding::AskAgent;
 pub use failure::{Ended, Failure, Refusal, end_answered, report};

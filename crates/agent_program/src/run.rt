@@ -2,13 +2,15 @@
 ghost use Rattle.std.specs.Prelude.{◌≡◌, map, option_map};
 ghost use Rattle.agent_program.specs.Refusals.{EndsBy};
 ghost use Rattle.agent_program.specs.Files.{read_view};
-ghost use Rattle.agent_program.specs.Reporting.{IsCheckOf};
+ghost use Rattle.agent_program.specs.Reporting.{IsCheckOf, IsPolicyCheckOf};
 ghost use Rattle.agent_program.specs.Services.{OpensRead, OpensFile};
 ghost use Rattle.agent_program.specs.Programs.{RunsBy, RunsRead, RunsFile, Does, IsProgramRun, nothing_left};
 
 use crate::checking::check_read;
+use crate::checking_policies::check_policy_read;
 use crate::commanding::{AskAgent, send_order};
 use crate::explaining::explain_file;
+use crate::explaining_policies::explain_policy_file;
 use crate::failure::{Ended, Failure, failure_of, read_failure, report};
 use crate::files::{FileLimit, NotRead, ReadFile};
 use crate::running::run_octets;
@@ -86,10 +88,14 @@ where
         }
         Asked::Script(file) => finish(run_file(alloc, files, objects, file, reader, writer)),
         Asked::Check(file) => finish(check_file(alloc, files, file, writer)),
+        Asked::CheckPolicy(file) => finish(check_policy_file(alloc, files, file, writer)),
         Asked::Serve(file, lasting) => serve_file(alloc, files, objects, file, lasting),
         Asked::Explain(file, question) => {
             finish(explain_file(alloc, files, &question, file, writer))
         }
+        Asked::ExplainPolicy(file, question) => finish(explain_policy_file(
+            alloc, files, &question, file, writer,
+        )),
         Asked::Tell(path, order) => finish(send_order(alloc, files, path, order, writer)),
     }
 }
@@ -216,4 +222,21 @@ where
 {
     let read = files.read_file(file, FileLimit::Configuration);
     check_read(alloc, read, writer)
+}
+
+// Reports whether a file says a policy.
+#[tactic(auto, using(crate::proofs::FileLemmas::file_policy_check))]
+fn check_policy_file<'a, F, O>(
+    alloc: Global,
+    files: &F,
+    file: &'a str,
+    writer: &mut O,
+) -> Result<(), Failure<'a>>
+where
+    F: ReadFile,
+    O: Write,
+    ensures { IsPolicyCheckOf (F.gives files.now) O.contents file.now writer.old writer.new result }
+{
+    let read = files.read_file(file, FileLimit::Policy);
+    check_policy_read(alloc, read, writer)
 }

@@ -6,7 +6,7 @@ use Rattle.clap.specs.declared.parser.matches.ArgMatches.{ArgMatches}
 use Rattle.agent_words.specs.Options.{agent_app}
 use Rattle.agent_words.specs.declared.asked.Asked.{Asked}
 use Rattle.agent_words.specs.Orders.{Command, order_of, order_view}
-use Rattle.agent_words.specs.declared.asked.Asked.TheVariants.{BuiltIn, Script, Check, Serve, Explain, Tell}
+use Rattle.agent_words.specs.declared.asked.Asked.TheVariants.{BuiltIn, Script, Check, CheckPolicy, Serve, Explain, ExplainPolicy, Tell}
 use Rattle.agent_words.specs.declared.asked.Lasting.{Lasting}
 use Rattle.agent_words.specs.declared.asked.Lasting.TheVariants.{Rounds, Forever}
 use Rattle.agent_words.specs.declared.asked.Operation.{Operation}
@@ -34,10 +34,14 @@ pub data Asking : Type 0 where
   script : (file : List ℕ) → Asking
   -- whether this file is a configuration
   check : (file : List ℕ) → Asking
+  -- whether this file is a policy, or a configuration with one
+  check_policy : (file : List ℕ) → Asking
   -- the agent by the configuration of this file, over UDP, for so long
   serve : (file : List ℕ) → Term → Asking
   -- what the policy of the configuration of this file decides on such a request
   explain : (file : List ℕ) → Inquiry → Asking
+  -- what the policy of this file, alone or of a configuration, decides on such a request
+  explain_policy : (file : List ℕ) → Inquiry → Asking
   -- that the agent whose control socket has this path does such a command
   tell : (path : List ℕ) → Command → Asking
 
@@ -91,18 +95,37 @@ abbrev pub lasting_in : List Row → Option Term
 lasting_in rows = lasting_by (is_set (one_of (codes "forever") rows))
     (is_set (one_of (codes "audit") rows)) (first_of (codes "PATH") rows)
 
+-- a check of the file of a configuration or of that of a policy, where one of them is given, and not both
+abbrev pub check_by : Option Text → Option Text → Option Asking
+check_by (Some file) None = Some (check file)
+check_by None (Some file) = Some (check_policy file)
+check_by (Some file) (Some policy) = None
+check_by None None = None
+
+-- the same of an explanation of this request
+abbrev pub explain_by : Option Text → Option Text → Inquiry → Option Asking
+explain_by (Some file) None inquiry = Some (explain file inquiry)
+explain_by None (Some file) inquiry = Some (explain_policy file inquiry)
+explain_by (Some file) (Some policy) inquiry = None
+explain_by None None inquiry = None
+
+-- the files of a configuration and of a policy that are given, by the rows of matches
+abbrev pub config_in : List Row → Option Text
+config_in rows = first_of (codes "FILE") rows
+
+abbrev pub policy_in : List Row → Option Text
+policy_in rows = first_of (codes "POLICYFILE") rows
+
 -- what a subcommand asks for of a file, by the rows of its matches
 abbrev pub asking_with : Text → List Row → List ℕ → Option Asking
 asking_with name rows file =
     if bytes_eq name (codes "script") then Some (script file)
-    else if bytes_eq name (codes "check") then Some (check file)
     else if bytes_eq name (codes "serve") then option_map (serve file) (lasting_in rows)
-    else if bytes_eq name (codes "explain") then option_map (explain file) (inquiry_by rows)
     else None
 
 -- the same where the matches have a file
 abbrev pub file_asking_by : Text → List Row → Option Asking
-file_asking_by name rows = option_and_then (asking_with name rows) (first_of (codes "FILE") rows)
+file_asking_by name rows = option_and_then (asking_with name rows) (config_in rows)
 
 -- a command for the agent whose control socket has this path
 abbrev pub tell_with : Option Text → Option Command → Option Asking
@@ -118,7 +141,11 @@ tell_by rows = tell_with (first_of (codes "PATH") rows)
 -- what a subcommand asks for, by the rows of its matches
 abbrev pub asking_by : Text → List Row → Option Asking
 asking_by name rows =
-    if bytes_eq name (codes "tell") then tell_by rows else file_asking_by name rows
+    if bytes_eq name (codes "tell") then tell_by rows
+    else if bytes_eq name (codes "check") then check_by (config_in rows) (policy_in rows)
+    else if bytes_eq name (codes "explain") then
+    option_and_then (explain_by (config_in rows) (policy_in rows)) (inquiry_by rows)
+    else file_asking_by name rows
 
 -- what matches ask for: without a subcommand the script by the built-in configuration
 abbrev pub asking_in : Option (Text × List Row) → Option Asking
@@ -141,8 +168,10 @@ abbrev pub asked_view : Asked → Asking
 asked_view BuiltIn = built_in
 asked_view (Script file) = script file.now
 asked_view (Check file) = check file.now
+asked_view (CheckPolicy file) = check_policy file.now
 asked_view (Serve file lasting) = serve file.now (lasting_view lasting)
 asked_view (Explain file question) = explain file.now (question_view question)
+asked_view (ExplainPolicy file question) = explain_policy file.now (question_view question)
 asked_view (Tell path order) = tell path.now (order_view order)
 
 -- These words ask for this: they have no fault, and it is what their matches say.
@@ -156,5 +185,7 @@ is_serving (Serve file lasting) = true
 is_serving BuiltIn = false
 is_serving (Script file) = false
 is_serving (Check file) = false
+is_serving (CheckPolicy file) = false
 is_serving (Explain file question) = false
+is_serving (ExplainPolicy file question) = false
 is_serving (Tell path order) = false

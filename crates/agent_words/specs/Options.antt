@@ -16,6 +16,17 @@ config_option = record (new_rule (codes "FILE")) {
   required = true;
 }
 
+-- `--config` and the name of a file, in whose place `--policy` may stand
+abbrev pub config_choice : Rule
+config_choice = record config_option { required = false }
+
+-- `--policy` and the name of a policy's file
+abbrev pub policy_option : Rule
+policy_option = record (new_rule (codes "POLICYFILE")) {
+  long = Some (codes "policy");
+  parser = Some parser.NonEmptyString;
+}
+
 -- `--control` and the path of a socket
 abbrev pub control_option : Rule
 control_option = record (new_rule (codes "PATH")) {
@@ -56,13 +67,18 @@ some_words id = record (one_word id) {
 abbrev pub file_shape : Text → Shape
 file_shape name = record (new_shape name) { rules = config_option ∷ [] }
 
+-- what is done with the file of a configuration or of a policy
+abbrev pub either_shape : Text → Shape
+either_shape name =
+    record (new_shape name) { rules = config_choice ∷ (policy_option ∷ []) }
+
 abbrev pub serve_shape : Shape
 serve_shape = record (new_shape (codes "serve")) { rules = config_option ∷ (forever_flag ∷ (audit_flag ∷ (control_option ∷ []))) }
 
 -- a file, and the request of which the decision is asked for
 abbrev pub explain_shape : Shape
 explain_shape = record (new_shape (codes "explain")) {
-  rules = config_option ∷ (one_word (codes "COMMUNITY") ∷ (one_word (codes "REQUEST") ∷ (some_words (codes "NAME") ∷ [])));
+  rules = config_choice ∷ (policy_option ∷ (one_word (codes "COMMUNITY") ∷ (one_word (codes "REQUEST") ∷ (some_words (codes "NAME") ∷ []))));
 }
 
 -- a control socket, and the command for the agent that has it
@@ -79,7 +95,7 @@ agent_shape = record (new_shape (codes "agentd")) { has_version = true }
 abbrev pub agent_app : App
 agent_app = record {
   top = record agent_shape { is_leaf = false };
-  subs = file_shape (codes "script") ∷ (file_shape (codes "check") ∷ (serve_shape ∷ (explain_shape ∷ (tell_shape ∷ []))));
+  subs = file_shape (codes "script") ∷ (either_shape (codes "check") ∷ (serve_shape ∷ (explain_shape ∷ (tell_shape ∷ []))));
 }
 
 -- one subcommand by itself
@@ -89,7 +105,8 @@ alone shape = record { top = shape; subs = [] }
 -- the words that the usage shows under a mistake in those of a subcommand: its own
 abbrev pub usage_app : Text → App
 usage_app name =
-    if bytes_eq name (codes "serve") then alone serve_shape
+    if bytes_eq name (codes "check") then alone (either_shape (codes "check"))
+    else if bytes_eq name (codes "serve") then alone serve_shape
     else if bytes_eq name (codes "explain") then alone explain_shape
     else if bytes_eq name (codes "tell") then alone tell_shape
     else agent_app

@@ -11,10 +11,14 @@ pub enum Asked<'a> {
     Script(&'a str),
     /// Whether this file is a configuration.
     Check(&'a str),
+    /// Whether this file is a policy, or a configuration with one.
+    CheckPolicy(&'a str),
     /// The agent by the configuration of this file, over UDP, for so long.
     Serve(&'a str, Lasting<'a>),
-    /// What the policy of this file decides on such a request.
+    /// What the policy of this file's configuration decides on such a request.
     Explain(&'a str, Question<'a>),
+    /// What the policy of this file, alone or of a configuration, decides on such a request.
+    ExplainPolicy(&'a str, Question<'a>),
     /// That a served agent, whose control socket has this path, does such a command.
     Tell(&'a str, Order<'a>),
 }

@@ -1,7 +1,7 @@
 //! What the matches of a command line ask for.
 ghost use Rattle.std.specs.Prelude.{◌≡◌, codes, map, option_and_then, option_map, IfOk, IsOkAnd};
 ghost use Rattle.clap.specs.Words.{all_of, first_of, one_of, subcommand_rows_of};
-ghost use Rattle.agent_words.specs.Asking.{rows_in, is_set, serve, lasting_in, lasting_view, operation_of, inquiry_by, file_asking_by, tell_by, asking_by, asking_in, asked_view, question_view, explain};
+ghost use Rattle.agent_words.specs.Asking.{rows_in, is_set, serve, lasting_in, lasting_view, operation_of, inquiry_by, config_in, policy_in, check_by, explain_by, file_asking_by, tell_by, asking_by, asking_in, asked_view, question_view};
 ghost use Rattle.agent_words.specs.Orders.{order_view, order_of, order_alone, order_of_file, order_of_port};
 
 use crate::asked::{Asked, Lasting, Operation, Order, Question};
@@ -33,28 +33,49 @@ fn asked_by<'a>(
 {
     match name {
         "tell" => Ok(tell_in(entered)),
-        _ => asked_of_file(alloc, name, entered),
+        "check" => Ok(check_in(entered)),
+        "explain" => explain_in(alloc, entered),
+        _ => Ok(asked_of_file(name, entered)),
     }
 }
 
 // What a subcommand asks for of a file.
-fn asked_of_file<'a>(
-    alloc: Global,
-    name: &str,
-    entered: &ArgMatches<'a>,
-) -> Result<Option<Asked<'a>>, AllocError>
-    ensures { IfOk result (λ asked.
-        option_map asked_view asked ≡ file_asking_by name.now (rows_in entered.now)) }
+fn asked_of_file<'a>(name: &str, entered: &ArgMatches<'a>) -> Option<Asked<'a>>
+    ensures { option_map asked_view result ≡ file_asking_by name.now (rows_in entered.now) }
 {
     let Some(file) = word_in(entered, "FILE") else {
-        return Ok(None);
+        return None;
     };
     match name {
-        "script" => Ok(Some(Asked::Script(file))),
-        "check" => Ok(Some(Asked::Check(file))),
-        "serve" => Ok(served(file, lasting_in(entered))),
-        "explain" => explained(file, question_in(alloc, entered)),
-        _ => Ok(None),
+        "script" => Some(Asked::Script(file)),
+        "serve" => served(file, lasting_in(entered)),
+        _ => None,
+    }
+}
+
+// A check of the file of a configuration or of a policy, if the words name one of them.
+fn check_in<'a>(entered: &ArgMatches<'a>) -> Option<Asked<'a>>
+    ensures { option_map asked_view result ≡ check_by (config_in (rows_in entered.now))
+        (policy_in (rows_in entered.now)) }
+{
+    match (word_in(entered, "FILE"), word_in(entered, "POLICYFILE")) {
+        (Some(file), None) => Some(Asked::Check(file)),
+        (None, Some(file)) => Some(Asked::CheckPolicy(file)),
+        (Some(_), Some(_)) | (None, None) => None,
+    }
+}
+
+// An explanation by the file of a configuration or of a policy, if the words name one of them.
+fn explain_in<'a>(alloc: Global, entered: &ArgMatches<'a>) -> Result<Option<Asked<'a>>, AllocError>
+    ensures { IfOk result (λ asked. option_map asked_view asked
+        ≡ option_and_then (explain_by (config_in (rows_in entered.now)) (policy_in (rows_in entered.now)))
+        (inquiry_by (rows_in entered.now))) }
+{
+    let (file, policy) = (word_in(entered, "FILE"), word_in(entered, "POLICYFILE"));
+    match question_in(alloc, entered) {
+        Ok(Some(question)) => Ok(explained(file, policy, question)),
+        Ok(None) => Ok(None),
+        Err(error) => Err(error),
     }
 }
 
@@ -132,19 +153,20 @@ fn order_of_port<'a>(word: &str, port: &'a str, direction: &str) -> Option<Order
     }
 }
 
-// What is asked for of a file and a request, if the words say one.
+// What is asked for of a file and a request, where one of the two files is named.
 fn explained<'a>(
-    file: &'a str,
-    question: Result<Option<Question<'a>>, AllocError>,
-) -> Result<Option<Asked<'a>>, AllocError>
-    ensures { IfOk result (λ asked. IsOkAnd question.entry (λ question.
-        option_map asked_view asked
-        ≡ option_map (explain file.now) (option_map question_view question))) }
+    file: Option<&'a str>,
+    policy: Option<&'a str>,
+    question: Question<'a>,
+) -> Option<Asked<'a>>
+    ensures { option_map asked_view result
+        ≡ explain_by (option_map (λ name. name.now) file.entry)
+        (option_map (λ name. name.now) policy.entry) (question_view question.entry) }
 {
-    match question {
-        Ok(Some(question)) => Ok(Some(Asked::Explain(file, question))),
-        Ok(None) => Ok(None),
-        Err(error) => Err(error),
+    match (file, policy) {
+        (Some(file), None) => Some(Asked::Explain(file, question)),
+        (None, Some(file)) => Some(Asked::ExplainPolicy(file, question)),
+        (Some(_), Some(_)) | (None, None) => None,
     }
 }
 
@@ -196,8 +218,8 @@ fn operation_of(word: &str) -> Option<Operation>
     }
 }
 
-// The first word that is given under an id.
-fn word_in<'a>(entered: &ArgMatches<'a>, id: &str) -> Option<&'a str>
+/// The first word that is given under an id.
+pub(crate) fn word_in<'a>(entered: &ArgMatches<'a>, id: &str) -> Option<&'a str>
     ensures { option_map (λ word. word.now) result ≡ first_of id.now (rows_in entered.now) }
 {
     entered.get_str(id)

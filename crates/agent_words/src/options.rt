@@ -1,7 +1,7 @@
 //! The words of `agentd`, and what its help says of them.
 ghost use Rattle.std.specs.Prelude.{[], codes, IfOk, IsOkAnd};
 ghost use Rattle.clap.specs.Words.{AddsArg, AddsSubcommand};
-ghost use Rattle.agent_words.specs.Options.{config_option, control_option, control_needed, flag_rule, one_word, some_words, file_shape, serve_shape, explain_shape, tell_shape, agent_shape, agent_app, usage_app};
+ghost use Rattle.agent_words.specs.Options.{config_option, config_choice, policy_option, control_option, control_needed, flag_rule, one_word, some_words, file_shape, either_shape, serve_shape, explain_shape, tell_shape, agent_shape, agent_app, usage_app};
 ghost use Rattle.agent_words.specs.Built.{IsArgument, IsCalled, HasWords};
 
 use clap::builder::ValueParser;
@@ -62,6 +62,13 @@ Examples:
   agentd serve --forever --config agentd.toml
   agentd serve --forever --audit --control /run/agentd/control --config agentd.toml";
 
+/// What is checked by each option.
+const CHECK_HELP: &str =
+    "With --policy it says whether POLICYFILE may be given to a served agent: whether it is a policy alone, or a
+configuration with one.
+
+Exit status: 0 if it is one, 2 if not, 1 if that cannot be printed.";
+
 /// How the text of a decision reads.
 const EXPLAIN_HELP: &str =
     "get, next and bulk ask for the view to read by, set for the view to write by. NAME may begin with
@@ -81,7 +88,8 @@ FILE cannot be read or is refused.
 
 Examples:
   agentd explain --config agentd.toml public get 1.3.6.1.2.1.17.1.2.0
-  agentd explain --config agentd.toml admin set .1.3.6.1.2.1.17.2.2.0";
+  agentd explain --config agentd.toml admin set .1.3.6.1.2.1.17.2.2.0
+  agentd explain --policy policy.toml public get 1.3.6.1.2.1.17.1.2.0";
 
 /// The commands for a served agent.
 const TELL_HELP: &str = "COMMAND is one of:
@@ -119,6 +127,7 @@ pub(crate) fn usage_command<'a>(alloc: Global, name: &str) -> Result<Command<'a>
     ensures { IfOk result (HasWords (usage_app name.now)) }
 {
     match name {
+        "check" => called(check_command(alloc), "agentd check"),
         "serve" => called(serve_command(alloc), "agentd serve"),
         "explain" => called(explain_command(alloc), "agentd explain"),
         "tell" => called(tell_command(alloc), "agentd tell"),
@@ -179,15 +188,15 @@ fn script_command<'a>(alloc: Global) -> Result<Command<'a>, AllocError>
     )
 }
 
-// `check`: whether a file is a configuration.
+// `check`: whether a file is a configuration, or a policy.
 fn check_command<'a>(alloc: Global) -> Result<Command<'a>, AllocError>
-    ensures { IfOk result (HasWords (record { top = file_shape (codes "check"); subs = [] })) }
+    ensures { IfOk result (HasWords (record { top = either_shape (codes "check"); subs = [] })) }
 {
-    file_command(
+    either_command(
         alloc,
         "check",
         "Says whether FILE is a configuration, and if not, what would be right",
-        "Exit status: 0 if it is one, 2 if not, 1 if that cannot be printed.",
+        CHECK_HELP,
     )
 }
 
@@ -215,7 +224,7 @@ fn serve_command<'a>(alloc: Global) -> Result<Command<'a>, AllocError>
 fn explain_command<'a>(alloc: Global) -> Result<Command<'a>, AllocError>
     ensures { IfOk result (HasWords (record { top = explain_shape; subs = [] })) }
 {
-    let explain = file_command(
+    let explain = either_command(
         alloc,
         "explain",
         "Says what the policy in FILE decides on a request, and by which rows",
@@ -266,6 +275,39 @@ fn file_command<'a>(
         .about(about)
         .after_help(after_help)
         .arg(config_option(alloc))
+}
+
+// What is done with the file of a configuration or of a policy.
+fn either_command<'a>(
+    alloc: Global,
+    name: &'a str,
+    about: &'a str,
+    after_help: &'a str,
+) -> Result<Command<'a>, AllocError>
+    ensures { IfOk result (HasWords (record { top = either_shape name.entry.now; subs = [] })) }
+{
+    let command = Command::new(alloc, name)
+        .about(about)
+        .after_help(after_help)
+        .arg(config_choice(alloc));
+    with_argument(command, policy_option(alloc))
+}
+
+// `--config FILE`, in whose place `--policy` may stand.
+fn config_choice<'a>(alloc: Global) -> Arg<'a>
+    ensures { IsArgument config_choice result }
+{
+    config_option(alloc).required(false)
+}
+
+// `--policy POLICYFILE`.
+fn policy_option<'a>(alloc: Global) -> Arg<'a>
+    ensures { IsArgument policy_option result }
+{
+    Arg::new(alloc, "POLICYFILE")
+        .long("policy")
+        .value_parser(ValueParser::NonEmptyString)
+        .help("A policy alone, or a configuration for its policy, in place of FILE")
 }
 
 // `--config FILE`.

@@ -8,7 +8,7 @@ ghost use Rattle.agent_words.specs.Asking.{IsAsked, asked_view, asking_in};
 ghost use Rattle.agent_words.specs.Answers.{IsText, IsRefusal, IsAnswerTo, IsAnswered};
 
 use crate::asked::Asked;
-use crate::matches::{asked_in, is_given};
+use crate::matches::{asked_in, is_given, word_in};
 use crate::options::{agent_command, usage_command};
 use clap::error::ErrorKind;
 use clap::{ArgMatches, Command, Error};
@@ -93,10 +93,20 @@ fn asked_of_matches<'a>(alloc: Global, matches: &ArgMatches<'a>) -> Result<Asked
 // What is wrong with matches that ask for nothing, though clap lets them pass.
 fn mistake_in(matches: &ArgMatches<'_>) -> &'static str {
     match matches.subcommand() {
-        Some(("explain", _)) => "a request is get, next, bulk or set",
+        Some(("check" | "explain", entered)) => file_mistake(entered),
         Some(("tell", _)) => "a command is link P up, link P down, counts or policy POLICYFILE",
         Some((_, entered)) if !is_given(entered, "audit") => "--control wants --forever",
         _ => "--audit wants --forever",
+    }
+}
+
+// What is wrong with those of a check or an explanation: the files, else the request.
+fn file_mistake(entered: &ArgMatches<'_>) -> &'static str {
+    match (word_in(entered, "FILE"), word_in(entered, "POLICYFILE")) {
+        (None, None) =>
+            "the following required arguments were not provided:\n  --config <FILE> or --policy <POLICYFILE>",
+        (Some(_), Some(_)) => "--config and --policy do not stand together",
+        (Some(_), None) | (None, Some(_)) => "a request is get, next, bulk or set",
     }
 }
 

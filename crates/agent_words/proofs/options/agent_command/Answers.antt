@@ -1,6 +1,6 @@
 use Rattle.std.proofs.Common.{codes, [], Ok}
 use Rattle.clap.specs.Words.{App, with_subcommand}
-use Rattle.agent_words.specs.Options.{agent_shape, file_shape, serve_shape, explain_shape, tell_shape}
+use Rattle.agent_words.specs.Options.{agent_shape, file_shape, either_shape, serve_shape, explain_shape, tell_shape}
 use Rattle.agent_words.proofs.Added.{added}
 use Rattle.agent_words.proofs.options.agent_command.Goals as goal
 
@@ -8,7 +8,7 @@ pub returns : goal.returns
 returns c =
     let none : App = record { top = agent_shape; subs = [] } in
     let script = file_shape (codes "script") in
-    let check = file_shape (codes "check") in
+    let check = either_shape (codes "check") in
     let one = with_subcommand none script in
     let two = with_subcommand one check in
     let three = with_subcommand two serve_shape in
