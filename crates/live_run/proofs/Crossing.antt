@@ -13,6 +13,13 @@ use Rattle.vacm_core.specs.contracts.radix.Branch as Branch
 use Rattle.vacm_core.specs.contracts.radix.Segment as Segment
 use Rattle.vacm_core.specs.contracts.radix.Radix.TheKnot as Knot
 use Rattle.vacm_core.specs.declared.radix.Radix.TheBlock as block
+use Rattle.vacm_core.specs.contracts.bitmaps.Bitmap as Bitmap
+use Rattle.vacm_core.specs.contracts.bitmaps.Digit as Digit
+use Rattle.vacm_core.specs.contracts.bitmaps.Bitmap.TheKnot as BitKnot
+use Rattle.vacm_core.specs.declared.bitmaps.Bitmap.TheBlock as bits
+use Rattle.vacm_core.specs.contracts.bitmaps.PlaceBitmap as place_bitmap
+use Rattle.vacm_core.specs.contracts.bitmaps.Block as row_block
+use Rattle.vacm_core.proofs.bitmaps.Rest.TheSendSync as rest
 use Rattle.vacm_core.specs.contracts.families.Families as families
 use Rattle.vacm_core.specs.contracts.families.Families.TheInside as families_inside
 use Rattle.vacm_core.proofs.rows.Rows.TheSendSync as rows
@@ -75,8 +82,30 @@ radix_field_send = enum_send (E.shape Radix.the_type) (search (sendable, crosses
 struct_row_send : (T : S.Declared) → AllSend (S.shape T).fields → IsSend (S.row T)
 struct_row_send T s = recorded_send (Struct (S.shape T)) T.D T.to T.to_one (struct_send (S.shape T) s)
 
+bitmap_layer : (h : bits.the_members → RattleType) → ((j : bits.the_members) → IsSend (h j)) → IsSend (layer_row BitKnot.ring bits.member-Bitmap h)
+bitmap_layer h all = let T = Bitmap.the_layer h in recorded_send (Enum (E.shape T)) T.D T.to T.to_one (enum_send (E.shape T) (search (sendable, crosses, all, rest.the_send) depth 20))
+
+digit_layer : (h : bits.the_members → RattleType) → ((j : bits.the_members) → IsSend (h j)) → IsSend (layer_row BitKnot.ring bits.member-Digit h)
+digit_layer h all = let T = Digit.the_layer h in recorded_send (Struct (S.shape T)) T.D T.to T.to_one (struct_send (S.shape T) (search (sendable, crosses, all) depth 20))
+
+bit_steps : (i : bits.the_members) → Sends BitKnot.ring i
+bit_steps bits.member-Bitmap = record { send = bitmap_layer }
+bit_steps bits.member-Digit = record { send = digit_layer }
+
+digit_hole_send : IsSend Digit.the_hole
+digit_hole_send = fix_send BitKnot.ring bit_steps bits.member-Digit
+
+bitmap_field_send : IsSend (Bitmap.the_field).row
+bitmap_field_send = enum_send (E.shape Bitmap.the_type) (search (sendable, crosses, digit_hole_send, rest.the_field_send) depth 20)
+
+place_bitmap_send : IsSend place_bitmap.the_row
+place_bitmap_send = struct_row_send place_bitmap.the_type (search (sendable, crosses, bitmap_field_send) depth 20)
+
+row_block_send : IsSend row_block.the_row
+row_block_send = struct_row_send row_block.the_type (search (sendable, crosses, place_bitmap_send) depth 20)
+
 families_send : IsSend families.the_row
-families_send = view_send _ _ _ _ _ (struct_row_send families_inside.the_type (search (sendable, crosses, radix_field_send, rows.the_send, family_row.the_send) depth 20))
+families_send = view_send _ _ _ _ _ (struct_row_send families_inside.the_type (search (sendable, crosses, radix_field_send, row_block_send, rows.the_send, family_row.the_send) depth 20))
 
 vacm_send : IsSend vacm.the_row
 vacm_send = view_send _ _ _ _ _ (struct_row_send vacm_inside.the_type (search (sendable, crosses, families_send, rows.the_send, group_row.the_send, access_row.the_send, name.the_send) depth 20))
