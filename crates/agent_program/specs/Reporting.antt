@@ -9,7 +9,7 @@ use Rattle.configuration.specs.Configurations.{IsConfigurationIn, IsFaultIn}
 use Rattle.community_core.specs.Communities.{PolicyTables}
 use Rattle.configuration.specs.Details.{IsSentenceIn}
 use Rattle.configuration.specs.PolicyFiles.{IsPolicyIn, IsPolicyFaultIn, IsPolicySentenceIn}
-use Rattle.configuration.specs.Warnings.{warnings_of}
+use Rattle.configuration.specs.Warnings.{policy_warnings, warnings_of}
 use Rattle.udp_agent.specs.Setups.{IsUnserved}
 use Rattle.udp_agent.specs.declared.setup.Unserved.{Unserved}
 use Rattle.udp_agent.specs.declared.setup.Unserved.TheVariants.{NoServe, NoSockets}
@@ -148,9 +148,10 @@ module _ {O : Type 0} (contents : O → Option (List ℕ)) where
 
 -- ---- a policy
 
--- what is stated of a policy: a served agent may be given it
-abbrev pub policy_ok_text : List ℕ
-policy_ok_text = codes "policy ok for tell and explain\n"
+-- what is stated of a policy: a served agent may be given it, and what is warned of in it
+abbrev pub policy_text : PolicyTables → List ℕ
+policy_text policy =
+    warned_text (codes "policy ok for tell and explain\n") (policy_warnings policy)
 
 -- this is the first fault of the octets of a policy's file, unless it is want of memory
 abbrev pub IsPolicyFaultFound : List ℕ → ConfigurationFault → Type 0
@@ -184,12 +185,19 @@ module _ {O : Type 0} (contents : O → Option (List ℕ)) where
       IsPolicyFaultWritten octets fault writer writer' failure
       ⊎ ((failure ≡ RunFailed) × (writer' ≡ writer))
 
-  -- the octets say a policy, and that is reported, whole or until the output failed
+  -- The text on a policy was written, whole or until the output failed; or there was no memory for its
+  -- warnings, and nothing was written.
+  abbrev pub IsPolicyWritten : PolicyTables → O → O → Result (Unit {0}) Failure → Type 0
+  IsPolicyWritten policy writer writer' ended =
+      IsReported contents (policy_text policy) writer writer' ended
+      ⊎ ((ended ≡ Err RunFailed) × (writer' ≡ writer))
+
+  -- the octets say a policy, and that is reported
   pub record IsPolicyReported (octets : List ℕ) (writer writer' : O) (ended : Result (Unit {0}) Failure)
       : Type 0 where
     pub policy : PolicyTables
     pub stated : IsPolicyIn octets policy
-    pub reported : IsReported contents policy_ok_text writer writer' ended
+    pub reported : IsPolicyWritten policy writer writer' ended
 
   -- the octets say no policy, and that is reported
   pub record IsNoPolicyReported (octets : List ℕ) (writer writer' : O)

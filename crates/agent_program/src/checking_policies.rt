@@ -1,16 +1,40 @@
 //! Reports whether octets say a policy.
-ghost use Rattle.std.specs.Prelude.{IfOk, string_bytes};
+ghost use Rattle.std.specs.Prelude.{◌≡◌, IfOk, string_bytes};
 ghost use Rattle.agent_program.specs.Files.{read_view};
-ghost use Rattle.agent_program.specs.Reporting.{IsPolicyFaultText, IsPolicyFaultReported, IsPolicyChecked, IsPolicyFileChecked};
+ghost use Rattle.agent_program.specs.Reporting.{policy_text, IsPolicyWritten, IsPolicyFaultText, IsPolicyFaultReported, IsPolicyChecked, IsPolicyFileChecked};
 
 use crate::failure::{Failure, write_out};
 use crate::files::NotRead;
-use configuration::{ConfigurationFault, policy_file_in, policy_sentence_in};
+use crate::warned::warned_text;
+use community_core::Policy;
+use configuration::{ConfigurationFault, policy_file_in, policy_sentence_in, policy_warnings};
 use std::alloc::{AllocError, Global};
 use std::io::Write;
 
 // What is stated of a policy: a served agent may be given it.
 const POLICY_TEXT: &[u8] = b"policy ok for tell and explain\n";
+
+// What is stated of a policy: that it is right, and behind that its warnings.
+fn policy_text(alloc: Global, policy: &Policy) -> Result<Vec<u8>, AllocError>
+    ensures { IfOk result (λ text. text.items ≡ policy_text policy.now) }
+{
+    let warnings = policy_warnings(alloc, policy)?;
+    warned_text(alloc, POLICY_TEXT, warnings.as_slice())
+}
+
+// Reports a policy, or that there was no memory for its warnings.
+fn report_policy<'a, O: Write>(
+    alloc: Global,
+    policy: &Policy,
+    writer: &mut O,
+) -> Result<(), Failure<'a>>
+    ensures { IsPolicyWritten O.contents policy.now writer.old writer.new result }
+{
+    match policy_text(alloc, policy) {
+        Ok(text) => write_out(&text, writer),
+        Err(_) => Err(Failure::Run),
+    }
+}
 
 // What is stated of a fault of the octets of a policy's file, as a line.
 fn policy_fault_text(
@@ -44,12 +68,12 @@ fn report_policy_fault<'a, O: Write>(
 }
 
 /// Reports whether octets of a policy's file say a policy, alone or as part of a configuration: `policy ok`,
-/// or their first fault in one sentence.
+/// and behind that a line for each of its warnings; or their first fault in one sentence.
 ///
 /// # Errors
 /// `PolicyRefused` where they say none, or where there is no memory to read them, and the sentence is
 /// written; `Output` where a write fails; `Run`, with nothing written, where there is no memory for
-/// the sentence.
+/// the sentence or for the warnings.
 pub fn check_policy<'a, O: Write>(
     alloc: Global,
     octets: &[u8],
@@ -58,8 +82,7 @@ pub fn check_policy<'a, O: Write>(
     ensures { IsPolicyChecked O.contents octets.now writer.old writer.new result }
 {
     match policy_file_in(alloc, octets) {
-        // What is lawful in it and cannot work is to be stated behind this line.
-        Ok(_) => write_out(POLICY_TEXT, writer),
+        Ok(policy) => report_policy(alloc, &policy, writer),
         Err(fault) => Err(report_policy_fault(alloc, octets, fault, writer)),
     }
 }
