@@ -66,7 +66,7 @@
 //! the table has more than 64 rows it compares those alone that bitmaps leave, 64 rows at a time: a
 //! word for each digit of four bits that differs in them, of each number of the name. So it takes at
 //! most some twice the time of a scan of the view's rows, but where a view has a few of many rows, and
-//! where many rows are open at different places, a tenth. `Vacm::in_view_under` takes the time of
+//! where many rows are open at different places, less. `Vacm::in_view_under` takes the time of
 //! `Vacm::in_view`, and then reads each family row once. `Vacm::put_mask` goes along the index, and
 //! along the way of its row where the mask before had no 0, else along that of each row: some 0.3 ms
 //! at 1,000 rows. A run of numbers of which a put mask leaves one open is passed whole, while any does.
