@@ -11,6 +11,7 @@ use Rattle.std.specs.declared.cmp.Ordering.{Ordering}
 use Rattle.std.specs.declared.cmp.Ordering.TheVariants.{Less, Equal, Greater}
 use Rattle.std.proofs.lemmas.Bool.{cases_Bool, cases_lt, both_ways, and_from, lt-ltb, le-ltb}
 use Rattle.std.proofs.lemmas.Cmp.{nat_list_cmp_total}
+use Rattle.std.proofs.lemmas.Cmp.{nat_cmp_total, nat_list_cmp_total, tied_itself}
 use Rattle.std.proofs.lemmas.List.Sums.{prefix_len_is}
 use Rattle.std.proofs.lemmas.List.Sorted.{ranks_by, sorted_far}
 use Rattle.std.proofs.lemmas.Map.Text.{is_eq-slice_cmp}
@@ -40,6 +41,13 @@ cmp_append [] (v ∷ b) x y e = absurd (omega arith)
 cmp_append (u ∷ a) [] x y e = absurd (omega arith)
 cmp_append (u ∷ a) (v ∷ b) x y e =
     ap (ordering_then (nat_cmp u v)) (cmp_append a b x y (omega arith)) ∙ sym (then_assoc (nat_cmp u v) (slice_cmp nat_cmp a b) (slice_cmp nat_cmp x y))
+
+-- what two lists begin with alike decides nothing
+pub cmp_behind : (u : ℕ) (a x y : List ℕ) → slice_cmp nat_cmp (u ∷ (a ++ x)) (u ∷ (a ++ y)) ≡ slice_cmp nat_cmp x y
+cmp_behind u a x y =
+    ap (λ (o : Ordering). ordering_then o (slice_cmp nat_cmp (a ++ x) (a ++ y))) (tied_itself nat_cmp_total u)
+    ∙ cmp_append a a x y refl
+    ∙ ap (λ (o : Ordering). ordering_then o (slice_cmp nat_cmp x y)) (tied_itself nat_list_cmp_total a)
 
 module _ (a b : FamilyRow) where
   abbrev long : Ordering

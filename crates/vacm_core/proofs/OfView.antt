@@ -49,6 +49,16 @@ nat_cmp-ltb a b = lt_as (nat_lt a b) (a == b)
 not_below_nothing : (n : ℕ) → is_lt (nat_cmp n 0) ≡ false
 not_below_nothing n = nat_cmp-ltb n 0 ∙ le-ltb n 0 (omega arith)
 
+-- numbers that differ decide, whatever follows
+lt_by : (b : Bool) (o p : Ordering) → is_lt (ordering_then (ordering_then (cond b Less Greater) o) p) ≡ b
+lt_by true o p = refl
+lt_by false o p = refl
+
+lt_differing : (a b : ℕ) (o p : Ordering) → (a == b) ≡ false → is_lt (ordering_then (ordering_then (nat_cmp a b) o) p) ≡ nat_lt a b
+lt_differing a b o p e =
+    ap (λ (c : Bool). is_lt (ordering_then (ordering_then (cond (nat_lt a b) Less (cond c Equal Greater)) o) p)) e
+    ∙ lt_by (nat_lt a b) o p
+
 module _ (row : FamilyRow) (view : List ℕ) where
   abbrev beside : Ordering
   beside = ordering_then (nat_cmp (length row.view) (length view)) (slice_cmp nat_cmp row.view view)
@@ -70,6 +80,18 @@ module _ (row : FamilyRow) (view : List ℕ) where
   -- by the view, and then by the length of the subtree
   pub cmp_front : (long : ℕ) → is_lt (ordering_then beside (nat_cmp (length row.subtree) long)) ≡ is_lt (by_front long)
   cmp_front long = front_by_long long (nat_cmp (length row.view) (length view)) refl
+
+  -- a view whose name has another length
+  pub front_by_lengths : (long : ℕ) → (length row.view == length view) ≡ false → nat_lt (length row.view) (length view) ≡ is_lt (by_front long)
+  front_by_lengths long e = sym (lt_differing (length row.view) (length view) (slice_cmp nat_cmp row.view view) (nat_cmp (length row.subtree) long) e) ∙ cmp_front long
+
+  -- and one whose name has the same length
+  pub front_by_names : (long : ℕ) → length row.view ≡ length view
+      → is_lt (ordering_then (slice_cmp nat_cmp row.view view) (nat_cmp (length row.subtree) long)) ≡ is_lt (by_front long)
+  front_by_names long e =
+      sym (ap (λ (o : Ordering). is_lt (ordering_then (ordering_then o (slice_cmp nat_cmp row.view view)) (nat_cmp (length row.subtree) long)))
+      (subst (λ (n : ℕ). nat_cmp (length row.view) n ≡ Equal) e (tied_itself nat_cmp_total (length row.view))))
+      ∙ cmp_front long
 
   less_still : (o : Ordering) (long : ℕ) → is_lt (ordering_then o (nat_cmp (length row.subtree) 0)) ≡ true → is_lt (ordering_then o (nat_cmp (length row.subtree) long)) ≡ true
   less_still Less long e = refl

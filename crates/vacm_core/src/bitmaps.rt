@@ -198,12 +198,12 @@ impl Block {
         }
     }
 
-    // How many places a name has in front at which no row's family lacks its numbers.
-    fn places_known(&self, name: &[u32]) -> usize {
-        if name.starts_with(self.front.as_slice()) {
-            self.front.len()
-        } else {
-            0
+    // Whether a place is the last of the numbers that all subtrees begin with, and a name begins with
+    // these: no row's family lacks the numbers of the name from there on forward.
+    fn is_known(&self, place: usize, name: &[u32]) -> bool {
+        match self.front.len() {
+            0 => false,
+            long => place == long - 1 && name.starts_with(self.front.as_slice()),
         }
     }
 
@@ -213,9 +213,8 @@ impl Block {
             → agrees_from 0 row.mask row.subtree name.now ≡ true → bit_at result bit ≡ 1 }
     {
         let mut left = u64::MAX;
-        let known = self.places_known(name);
         for at in self.places.as_slice() {
-            if left == 0 || at.place < known {
+            if left == 0 || self.is_known(at.place, name) {
                 return left;
             }
             if let Some(number) = name.get(at.place) {

@@ -1,6 +1,6 @@
 //! The numbers of the family rows in the order of their indexes, so that the row of an index, and
 //! the one behind it, are found by halves (RFC 3415, vacmViewTreeFamilyTable).
-ghost use Rattle.std.specs.Prelude.{◌≡◌, ◌<◌, length, slice_get, IfOk, OnErr};
+ghost use Rattle.std.specs.Prelude.{◌≡◌, ◌<◌, ◌∷◌, ◌++◌, length, slice_get, IfOk, IfSome, IsTrue, OnErr};
 ghost use Rattle.std.specs.Option.{ForSome};
 ghost use Rattle.std.specs.Cmp.Lexicographic.{slice_cmp};
 ghost use Rattle.std.specs.Ordering.{nat_cmp};
@@ -14,6 +14,7 @@ use crate::numbers::put_index;
 use crate::rows::Rows;
 use crate::tables::FamilyRow;
 use arrayvec::ArrayVec;
+use oid_core::Oid;
 use std::alloc::{AllocError, Global};
 use std::cmp::Ordering;
 
@@ -44,15 +45,75 @@ fn cmp_numbered(rows: &[FamilyRow], a: usize, b: usize) -> Ordering
     }
 }
 
-// Where the index of the row of a number lies beside numbers.
+// Whether numbers are octets.
+fn are_octets(numbers: &[u32], octets: &[u8]) -> bool
+    ensures { IsTrue result → numbers.now ≡ octets.now }
+{
+    if numbers.len() != octets.len() {
+        return false;
+    }
+    for (k, octet) in octets.iter().enumerate() {
+        if numbers[k] != u32::from(*octet) {
+            return false;
+        }
+    }
+    true
+}
+
+// What follows in numbers that begin with the name of a row's view, and its length.
+fn behind_view<'a>(row: &FamilyRow, numbers: &'a [u32]) -> Option<&'a [u32]>
+    ensures { IfSome result (λ rest. numbers.now ≡ length row.now.view ∷ (row.now.view ++ rest.now)) }
+{
+    let view = row.view.as_bytes();
+    let [long, rest @ ..] = numbers else {
+        return None;
+    };
+    if *long == view.len() as u32
+        && view.len() <= rest.len()
+        && are_octets(&rest[..view.len()], view)
+    {
+        Some(&rest[view.len()..])
+    } else {
+        None
+    }
+}
+
+// Where the length and the numbers of a subtree lie beside numbers.
+fn cmp_subtree(subtree: &Oid, numbers: &[u32]) -> Ordering
+    ensures { result ≡ slice_cmp nat_cmp (length subtree.now ∷ subtree.now) numbers.now }
+{
+    let subtree = subtree.as_slice();
+    match numbers {
+        [] => Ordering::Greater,
+        [long, rest @ ..] => (subtree.len() as u32).cmp(long).then(subtree.cmp(rest)),
+    }
+}
+
+// Where the index of a row lies beside numbers.
+fn cmp_index(row: &FamilyRow, numbers: &[u32]) -> Ordering
+    ensures { result ≡ slice_cmp nat_cmp (family_index row.now) numbers.now }
+{
+    let mut index = ArrayVec::new();
+    put_index(&mut index, row);
+    index.as_slice().cmp(numbers)
+}
+
+// Where the index of the row of a number lies beside numbers; most often these are of the row's view. No
+// row comes before any.
 fn cmp_with(rows: &[FamilyRow], n: usize, numbers: &[u32]) -> Ordering
     ensures { result ≡ key_cmp (key_at index_key rows.now n) (0, numbers.now) }
 {
-    let mut index = ArrayVec::new();
-    if let Some(row) = rows.get(n) {
-        put_index(&mut index, row);
+    let Some(row) = rows.get(n) else {
+        return if numbers.is_empty() {
+            Ordering::Equal
+        } else {
+            Ordering::Less
+        };
+    };
+    match behind_view(row, numbers) {
+        Some(rest) => cmp_subtree(&row.subtree, rest),
+        None => cmp_index(row, numbers),
     }
-    index.as_slice().cmp(numbers)
 }
 
 /// The numbers of all rows in the order of their indexes.

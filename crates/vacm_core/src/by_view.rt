@@ -1,6 +1,6 @@
 //! The row of a view that decides on a name, by the rows of the view in the order of their indexes:
 //! the last of them that has the name (RFC 3415, vacmViewTreeFamilyTable).
-ghost use Rattle.std.specs.Prelude.{◌≡◌, ◌≤◌, ◌<◌, ◌-◌, ◌/◌, ◌%◌, ℕ, true, false, All, length, take, drop, slice_get, slice_index_or};
+ghost use Rattle.std.specs.Prelude.{◌≡◌, ◌≤◌, ◌<◌, ◌-◌, ◌/◌, ◌%◌, ℕ, true, false, IsTrue, All, length, take, drop, slice_get, slice_index_or};
 ghost use Rattle.std.specs.Int.{bit_at};
 ghost use Rattle.std.specs.Option.{ForSome};
 ghost use Rattle.std.specs.Cmp.Lexicographic.{slice_cmp};
@@ -23,18 +23,27 @@ use crate::tables::FamilyRow;
 // The most rows that are scanned whole; of more rows, those of the view are found by halves.
 const SHORT_INDEX: usize = 64;
 
+/// The numbers of the family rows in the order of their indexes.
+#[derive(Clone, Copy)]
+pub struct Ranks<'a> {
+    /// The numbers.
+    pub index: &'a [usize],
+    /// At which places among them the rows of each view are likely to begin. That saves time alone: where
+    /// it is wrong, the rows of a view are found by halves.
+    pub starts: &'a [usize],
+}
+
 // Whether the index of a row is less than that of each row of a view with so many numbers in its
 // subtree.
 fn is_row_before(row: &FamilyRow, view: &[u8], long: usize) -> bool
     ensures { result ≡ is_lt (slice_cmp nat_cmp (family_index row.now) (index_front view.now long)) }
 {
     let own = row.view.as_bytes();
+    if own.len() != view.len() {
+        return own.len() < view.len();
+    }
     let subtree = row.subtree.as_slice();
-    own.len()
-        .cmp(&view.len())
-        .then(own.cmp(view))
-        .then(subtree.len().cmp(&long))
-        .is_lt()
+    own.cmp(view).then(subtree.len().cmp(&long)).is_lt()
 }
 
 // The same of the row of a number; no row comes before any.
@@ -47,31 +56,115 @@ fn is_before(rows: &[FamilyRow], n: usize, view: &[u8], long: usize) -> bool
     }
 }
 
+// Whether all rows ahead of a place of an index are before a view, by the last of them.
+fn are_before(rows: &[FamilyRow], index: &[usize], view: &[u8], long: usize, place: usize) -> bool
+    requires index { IsIndex index_key rows.now index.now }
+    requires within { place ≤ length index.now }
+    ensures { IsTrue result → (k d : ℕ) → k < place
+        → is_before rows.now view.now long (slice_index_or index.now k d) ≡ true }
+{
+    place == 0 || is_before(rows, index[place - 1], view, long)
+}
+
+// Whether no row of an index from a place on is before a view, by the first of them.
+fn are_behind(rows: &[FamilyRow], index: &[usize], view: &[u8], long: usize, place: usize) -> bool
+    requires index { IsIndex index_key rows.now index.now }
+    requires within { place ≤ length index.now }
+    ensures { IsTrue result → (k d : ℕ) → place ≤ k → k < length index.now
+        → is_before rows.now view.now long (slice_index_or index.now k d) ≡ false }
+{
+    place == index.len() || !is_before(rows, index[place], view, long)
+}
+
 // How many rows of an index have indexes less than those of the rows of a view with so many numbers in
-// their subtrees, found by halves.
-fn count_before(rows: &[FamilyRow], index: &[usize], view: &[u8], long: usize) -> usize
+// their subtrees: a likely number where it is right, else found by halves.
+fn count_before(
+    rows: &[FamilyRow],
+    index: &[usize],
+    view: &[u8],
+    long: usize,
+    likely: usize,
+) -> usize
     requires { IsIndex index_key rows.now index.now }
     ensures bound { result ≤ length index.now }
     ensures parted { IsPartitionPoint (λ n. is_before rows.now view.now long n ≡ true)
         (λ n. is_before rows.now view.now long n ≡ false) index.now result }
 {
+    if likely <= index.len()
+        && are_before(rows, index, view, long, likely)
+        && are_behind(rows, index, view, long, likely)
+    {
+        return likely;
+    }
     index.partition_point(|n| is_before(rows, *n, view, long))
+}
+
+// The same of the row at a place of an index, of rows of a view with any subtree.
+fn is_before_at(rows: &[FamilyRow], index: &[usize], place: usize, view: &[u8]) -> bool {
+    match index.get(place) {
+        Some(n) => is_before(rows, *n, view, 0),
+        None => false,
+    }
+}
+
+// Whether the subtree of the row of a number has at most so many numbers.
+fn is_short(rows: &[FamilyRow], n: usize, most: usize) -> bool {
+    match rows.get(n) {
+        Some(row) => row.subtree.as_slice().len() <= most,
+        None => false,
+    }
+}
+
+// How many of the rows of these numbers, which rise by the lengths of their subtrees, have at most so many
+// numbers there.
+fn count_short(rows: &[FamilyRow], numbers: &[usize], most: usize) -> usize
+    ensures { result ≤ length numbers.now }
+{
+    match numbers.last() {
+        Some(last) if !is_short(rows, *last, most) => {
+            numbers.partition_point(|n| is_short(rows, *n, most))
+        }
+        _ => numbers.len(),
+    }
+}
+
+// The number at a place, or another one where there is none.
+fn number_or(numbers: &[usize], place: usize, other: usize) -> usize {
+    match numbers.get(place) {
+        Some(number) => *number,
+        None => other,
+    }
+}
+
+// Where the rows of a view whose subtrees have at most so many numbers are likely to begin and to end, by
+// where the rows of each view begin.
+fn likely_range(rows: &[FamilyRow], ranks: Ranks<'_>, view: &[u8], most: usize) -> (usize, usize) {
+    let index = ranks.index;
+    let at = ranks
+        .starts
+        .partition_point(|start| is_before_at(rows, index, *start, view));
+    let first = number_or(ranks.starts, at, index.len()).min(index.len());
+    let end = number_or(ranks.starts, at.saturating_add(1), index.len()).clamp(first, index.len());
+    (first, first + count_short(rows, &index[first..end], most))
 }
 
 // Where those rows of an index begin and end that are of a view and whose subtrees have at most so many
 // numbers. Of few rows these are all.
-fn range_of_view(rows: &[FamilyRow], index: &[usize], view: &[u8], most: usize) -> (usize, usize)
-    requires index { IsIndex index_key rows.now index.now }
+fn range_of_view(rows: &[FamilyRow], ranks: Ranks<'_>, view: &[u8], most: usize) -> (usize, usize)
+    requires index { IsIndex index_key rows.now ranks.index.now }
     requires most { most < usize.MAX }
     ensures order { result.0 ≤ result.1 }
-    ensures end { result.1 ≤ length index.now }
-    ensures of_view { AreOfView rows.now view.now most (take (result.1 - result.0) (drop result.0 index.now)) }
+    ensures end { result.1 ≤ length ranks.entry.index.now }
+    ensures of_view { AreOfView rows.now view.now most
+        (take (result.1 - result.0) (drop result.0 ranks.entry.index.now)) }
 {
+    let index = ranks.index;
     if index.len() <= SHORT_INDEX {
         return (0, index.len());
     }
-    let first = count_before(rows, index, view, 0);
-    let end = count_before(rows, index, view, most + 1);
+    let (first, end) = likely_range(rows, ranks, view, most);
+    let first = count_before(rows, index, view, 0, first);
+    let end = count_before(rows, index, view, most + 1, end);
     (first, end)
 }
 
@@ -167,18 +260,19 @@ fn last_of_blocks(
 /// behind, by their bitmaps where there are some. It takes no memory.
 pub fn last_of_view(
     rows: &[FamilyRow],
-    index: &[usize],
+    ranks: Ranks<'_>,
     blocks: &[Block],
     view: &Name,
     name: &[u32],
 ) -> Option<usize>
-    requires index { IsIndex index_key rows.now index.now }
-    requires blocks { AreIn rows.now index.now blocks.now }
+    requires index { IsIndex index_key rows.now ranks.index.now }
+    requires blocks { AreIn rows.now ranks.index.now blocks.now }
     requires differ { KeysDiffer same_family rows.now }
     ensures place { result ≡ deciding_family rows.now view.now name.now }
     ensures within { ForSome result (λ n. n < length rows.now) }
 {
-    let (first, end) = range_of_view(rows, index, view.as_bytes(), name.len());
+    let (first, end) = range_of_view(rows, ranks, view.as_bytes(), name.len());
+    let index = ranks.index;
     if blocks.is_empty() {
         last_match(rows, &index[first..end], view, name)
     } else {

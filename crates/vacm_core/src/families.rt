@@ -18,7 +18,7 @@ ghost use Rattle.vacm_core.specs.declared.tables.FamilyRow.{FamilyRow};
 
 use crate::bitmaps::{Block, bitmaps_of, put_row};
 use crate::by_index::{self, numbers_by_index};
-use crate::by_view::last_of_view;
+use crate::by_view::{Ranks, last_of_view};
 use crate::copying::copied_rows;
 use crate::deciding::{FamilyContest, mask_bit};
 use crate::front;
@@ -29,6 +29,7 @@ use crate::numbers::put_numbers;
 use crate::radix::{Radix, packed};
 use crate::repeats::numbers_by_key;
 use crate::rows::Rows;
+use crate::starts::starts_of;
 use crate::tables::FamilyRow;
 use crate::tree::{Step, Tree};
 use crate::walk::best_below;
@@ -51,7 +52,7 @@ const FEW_OPEN_ROWS: usize = 64;
 const LEAST_STEPS: usize = 12;
 
 // For how many rows it may take one more.
-const ROWS_PER_STEP: usize = 16;
+const ROWS_PER_STEP: usize = 32;
 
 impl Keyed for FamilyRow {
     ghost key = { view_key };
@@ -76,6 +77,8 @@ pub struct Families {
     table_index: Rows<usize>,
     // By that index, of many rows.
     blocks: Vec<Block>,
+    // Where the rows of each view begin in that index, of many rows.
+    starts: Vec<usize>,
 }
 
 impl Model for Families {
@@ -104,6 +107,7 @@ impl Drop for Families {
             view_index: _view_index,
             table_index: _table_index,
             blocks: _blocks,
+            starts: _starts,
         } = self;
     }
 }
@@ -123,12 +127,14 @@ impl Families {
         let view_index = index_of(alloc, rows.as_slice())?;
         let table_index = numbers_by_index(alloc, rows.as_slice())?;
         let blocks = bitmaps_of(alloc, rows.as_slice(), table_index.as_slice())?;
+        let starts = starts_of(alloc, rows.as_slice(), table_index.as_slice())?;
         Ok(Families {
             rows: rows.into_vec(),
             tree,
             view_index,
             table_index,
             blocks,
+            starts,
         })
     }
 
@@ -183,9 +189,13 @@ impl Families {
         ensures place { result ≡ deciding_family self.now view.now name.now }
         ensures within { ForSome result (λ n. n < length self.now) }
     {
-        let index = self.table_index.as_slice();
+        let rows = self.rows.as_slice();
+        let ranks = Ranks {
+            index: self.table_index.as_slice(),
+            starts: self.starts.as_slice(),
+        };
         let blocks = self.blocks.as_slice();
-        deciding_family(&self.tree, self.rows.as_slice(), index, blocks, view, name)
+        deciding_family(&self.tree, rows, ranks, blocks, view, name)
     }
 
     /// The shortest front of a name under which the answer by the row that decides holds.
@@ -423,24 +433,24 @@ fn is_for_scan(tree: &Radix, rows: &[FamilyRow], blocks: &[Block]) -> bool {
 fn deciding_family(
     tree: &Radix,
     rows: &[FamilyRow],
-    index: &[usize],
+    ranks: Ranks<'_>,
     blocks: &[Block],
     view: &Name,
     name: &Oid,
 ) -> Option<usize>
     requires tree { IsTreeOf (reaches tree.now) rows.now }
-    requires index { IsIndex index_key rows.now index.now }
-    requires blocks { AreIn rows.now index.now blocks.now }
+    requires index { IsIndex index_key rows.now ranks.index.now }
+    requires blocks { AreIn rows.now ranks.index.now blocks.now }
     requires differ { KeysDiffer same_family rows.now }
     ensures place { result ≡ deciding_family rows.now view.now name.now }
     ensures within { ForSome result (λ n. n < length rows.now) }
 {
     let name = name.as_slice();
     if is_for_scan(tree, rows, blocks) {
-        return last_of_view(rows, index, blocks, view, name);
+        return last_of_view(rows, ranks, blocks, view, name);
     }
     match walked(tree, rows, view, name) {
         Some(best) => best,
-        None => last_of_view(rows, index, blocks, view, name),
+        None => last_of_view(rows, ranks, blocks, view, name),
     }
 }

@@ -94,6 +94,7 @@ mod reading;
 mod repeats;
 mod rows;
 mod same;
+mod starts;
 mod tables;
 mod text;
 mod tree;

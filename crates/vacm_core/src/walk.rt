@@ -1,5 +1,5 @@
 //! The best of the rows of these numbers, and of the rows of a tree whose way a name fits.
-ghost use Rattle.std.specs.Prelude.{◌≡◌, ◌<◌, ◌≤◌, ◌&&◌, ◌==◌, ℕ, List, Contains, true, Some, length};
+ghost use Rattle.std.specs.Prelude.{◌≡◌, ◌≢◌, ◌<◌, ◌≤◌, ◌&&◌, ◌==◌, ℕ, List, Contains, IsTrue, true, false, Some, length};
 ghost use Rattle.std.specs.Option.{ForSome};
 ghost use Rattle.vacm_core.specs.Best.{takes_over};
 ghost use Rattle.vacm_core.specs.Trees.{reaches, fits, IsFit, Covers, IsLater};
@@ -9,7 +9,7 @@ use crate::contest::{Contest, takes_over};
 use crate::radix::{Branch, Radix};
 
 /// How many steps a fork takes from which a name may go on in several ways.
-const LOOSE_STEPS: usize = 16;
+const LOOSE_STEPS: usize = 32;
 
 // Whether a row is better than the best so far, and passes.
 fn is_better<C: Contest>(contest: &C, rows: &[C::Row], best: Option<usize>, row: &C::Row) -> bool
@@ -51,13 +51,20 @@ pub fn best_among<C: Contest>(contest: &C, rows: &[C::Row], numbers: &[usize]) -
     best
 }
 
-// How many steps a loose fork takes.
-fn loose_steps(node: &Branch) -> usize {
-    if node.less.is_empty() && node.greater.is_empty() {
-        1
-    } else {
-        LOOSE_STEPS
-    }
+// Whether all ways go on by the number of a fork, or end there.
+fn is_only_way(node: &Branch) -> bool
+    ensures less { IsTrue result → node.now.less ≡ Radix.Empty }
+    ensures greater { IsTrue result → node.now.greater ≡ Radix.Empty }
+{
+    node.less.is_empty() && node.greater.is_empty()
+}
+
+// Whether no name goes on by the number of a fork that has another number here.
+fn is_aside(node: &Branch, number: u32) -> bool
+    ensures loose { IsTrue result → node.now.loose_equal ≡ false }
+    ensures other { IsTrue result → number ≢ node.now.part }
+{
+    !node.loose_equal && number != node.part
 }
 
 // Counts so many steps off those that are left, and answers whether none is left then.
@@ -102,12 +109,22 @@ pub fn best_below<C: Contest>(
         return best;
     };
     if node.loose {
-        if is_spent(left, loose_steps(node)) {
+        if is_only_way(node) {
+            if is_spent(left, 1) || is_aside(node, *first) {
+                return best;
+            }
+            let best = best_below(&node.equal, contest, rows, after, best, left);
+            if *left == 0 {
+                return best;
+            }
+            return better(contest, rows, best, node.row);
+        }
+        if is_spent(left, LOOSE_STEPS) {
             return best;
         }
         let best = best_below(&node.less, contest, rows, name, best, left);
         let best = best_below(&node.greater, contest, rows, name, best, left);
-        if !node.loose_equal && *first != node.part {
+        if is_aside(node, *first) {
             return best;
         }
         let best = best_below(&node.equal, contest, rows, after, best, left);

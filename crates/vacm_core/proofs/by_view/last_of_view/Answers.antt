@@ -14,7 +14,7 @@ returns-then-is_empty-clause-place c =
     let view = c.args.view.now in
     let name = c.args.name.now in
     let range = c.range_of_view-first.result in
-    let numbers = take (range.1 - range.0) (drop range.0 c.args.index.now) in
+    let numbers = take (range.1 - range.0) (drop range.0 c.args.ranks.index.now) in
     let r = c.last_match.result in
     let are = subst (λ (v : List ℕ). AreOfView rows v (length name) numbers) c.as_bytes.ensures.value c.range_of_view-first.ensures.of_view in
     decides family_order (matches view name) rows
@@ -26,7 +26,7 @@ returns-else-is_empty-clause-place c =
     let view = c.args.view.now in
     let name = c.args.name.now in
     let range = c.range_of_view-first.result in
-    let numbers = take (range.1 - range.0) (drop range.0 c.args.index.now) in
+    let numbers = take (range.1 - range.0) (drop range.0 c.args.ranks.index.now) in
     let r = c.last_of_blocks.result in
     let are = subst (λ (v : List ℕ). AreOfView rows v (length name) numbers) c.as_bytes.ensures.value c.range_of_view-first.ensures.of_view in
     decides family_order (matches view name) rows

@@ -6,7 +6,7 @@ use Rattle.vacm_core.proofs.by_view.range_of_view.Goals as goal
 
 pub returns-then-index-le-SHORT_INDEX-clause-of_view : goal.returns-then-index-le-SHORT_INDEX-clause-of_view
 returns-then-index-le-SHORT_INDEX-clause-of_view c =
-    let index = c.args.index.now in
+    let index = c.args.ranks.index.now in
     subst (AreOfView c.args.rows.now c.args.view.now c.args.most) (sym {A = List ℕ} (take_all (length index - 0) index (omega arith)))
     (all_of_view c.args.rows.now c.args.view.now c.args.most index c.requires.index)
 
@@ -14,10 +14,10 @@ pub returns-clause-order : goal.returns-clause-order
 returns-clause-order c =
     let first = c.count_before-first in
     let end = c.count_before-end in
-    in_turn c.args.rows.now c.args.view.now c.args.most c.args.index.now c.requires.index first.result end.result first.ensures.bound end.ensures.bound first.ensures.parted end.ensures.parted
+    in_turn c.args.rows.now c.args.view.now c.args.most c.args.ranks.index.now c.requires.index first.result end.result first.ensures.bound end.ensures.bound first.ensures.parted end.ensures.parted
 
 pub returns-clause-of_view : goal.returns-clause-of_view
 returns-clause-of_view c =
     let first = c.count_before-first in
     let end = c.count_before-end in
-    part_of_view c.args.rows.now c.args.view.now c.args.most c.args.index.now c.requires.index first.result end.result first.ensures.bound end.ensures.bound first.ensures.parted end.ensures.parted
+    part_of_view c.args.rows.now c.args.view.now c.args.most c.args.ranks.index.now c.requires.index first.result end.result first.ensures.bound end.ensures.bound first.ensures.parted end.ensures.parted

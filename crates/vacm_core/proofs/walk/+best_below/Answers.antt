@@ -1,4 +1,4 @@
-use Rattle.std.proofs.Common.{◌≡◌, ◌≢◌, ◌<◌, ℕ, get_or, Option, true, false, Some, None, option_map, sym, ap, subst, ◌∙◌, inl, inr, arith, rules}
+use Rattle.std.proofs.Common.{refl, ◌≡◌, ◌≢◌, ◌<◌, ℕ, get_or, Option, true, false, Some, None, option_map, sym, ap, subst, ◌∙◌, inl, inr, arith, rules}
 use Rattle.std.specs.Option.{is_none}
 use Rattle.vacm_core.specs.declared.radix.Branch.{Branch}
 use Rattle.vacm_core.specs.declared.radix.Segment.{Segment}
@@ -12,7 +12,7 @@ returns-clause-found g t c still way n e f =
     let tight = ap (λ (m : Branch). m.loose) (sym c.deref-node.ensures) ∙ c.if-node.false in
     let low = ap (λ (m : Branch). m.part) c.deref-node.ensures in
     let high = ap (λ (m : Branch). m.part) c.deref-node.ensures in
-    elim (goes_straight c.args.tree.now node c.in-Fork.is way c.args.name.now n e f c.in-len1-up.len_at_least tight (the_part _ _ _ _ low high c.if-first-node-2.false c.if-node-first.false)) [
+    elim (goes_straight c.args.tree.now node c.in-Fork.is way c.args.name.now n e f c.in-len1-up.len_at_least tight (the_part _ _ _ _ low high c.if-first-node.false c.if-node-first.false)) [
       | inl here ↦ c.better-2.ensures.here n (ap (λ (m : Branch). m.row) c.deref-node.ensures ∙ here)
       | inr on ↦ c.better-2.ensures.later.kept n
           (c.best_below-best-2.ensures.found still on.rest n (subst (λ (m : Branch). reaches m.equal on.rest n ≡ true) (sym c.deref-node.ensures) on.leads) on.fits)
@@ -21,12 +21,12 @@ returns-clause-found g t c still way n e f =
 pub returns-then-node-clause-found : goal.returns-then-node-clause-found
 returns-then-node-clause-found g t c still way n e f =
     let node = c.in-Fork.node in
-    let greater = c.best_below-best-then-node.ensures in
-    let equal = c.best_below-best-then-node-2.ensures in
-    let last = c.better.ensures in
+    let greater = c.best_below-best-then-node-2.ensures in
+    let equal = c.best_below-best-then-node-3.ensures in
+    let last = c.better-then-node.ensures in
     elim (turns c.args.tree.now node c.in-Fork.is way c.args.name.now n e f c.in-len1-up.len_at_least) [
       | inl less ↦ last.later.kept n (equal.later.kept n (greater.later.kept n
-          (c.best_below-best.ensures.found (omega (arith, still, greater.fewer, equal.fewer)) way n (subst (λ (m : Branch). reaches m.less way n ≡ true) (sym c.deref-node.ensures) less) f)))
+          (c.best_below-best-then-node.ensures.found (omega (arith, still, greater.fewer, equal.fewer)) way n (subst (λ (m : Branch). reaches m.less way n ≡ true) (sym c.deref-node.ensures) less) f)))
       | inr (inl more) ↦ last.later.kept n (equal.later.kept n
           (greater.found (omega (arith, still, equal.fewer)) way n (subst (λ (m : Branch). reaches m.greater way n ≡ true) (sym c.deref-node.ensures) more) f))
       | inr (inr (inl here)) ↦ last.here n (ap (λ (m : Branch). m.row) c.deref-node.ensures ∙ here)
@@ -51,66 +51,28 @@ returns-in-None-clause-found g t c still way n e f =
     ap (option_map (λ rest. rest.now)) (sym c.in-None.is) ∙ c.after.ensures ∙ ap (λ (r : Segment). after_run r.loose r.parts.items name) c.deref.ensures in
     leads_nowhere run.value.loose run.value.parts.items run.value.below name n (along_run c.args.tree.now run c.in-Segment.is way name n e f) found
 
--- a row that is none is not of a number
-no_row : (row : Option ℕ) (n : ℕ) → is_none row ≡ true → row ≡ Some n → ⊥
-no_row None n e f = cc
-no_row (Some m) n e f = cc
-
-pub returns-then-is_none-clause-found : goal.returns-then-is_none-clause-found
-returns-then-is_none-clause-found g t c still way n e f =
-    let node = c.in-Fork.node in
-    let tight = ap (λ (m : Branch). m.loose) (sym c.deref-node.ensures) ∙ c.if-node.false in
-    let low = ap (λ (m : Branch). m.part) c.deref-node.ensures in
-    let high = ap (λ (m : Branch). m.part) c.deref-node.ensures in
-    elim (goes_straight c.args.tree.now node c.in-Fork.is way c.args.name.now n e f c.in-len1-up.len_at_least tight (the_part _ _ _ _ low high c.if-first-node-2.false c.if-node-first.false)) [
-      | inl here ↦ absurd (no_row c.deref-node.result.now.row n (search rules) (ap (λ (m : Branch). m.row) c.deref-node.ensures ∙ here))
-      | inr on ↦ c.best_below-then-is_none.ensures.found still on.rest n (subst (λ (m : Branch). reaches m.equal on.rest n ≡ true) (sym c.deref-node.ensures) on.leads) on.fits
-    ]
-
-pub returns-then-first-node-2-clause-found : goal.returns-then-first-node-2-clause-found
-returns-then-first-node-2-clause-found g t c still way n e f =
-    let tight = ap (λ (m : Branch). m.loose) (sym c.deref-node.ensures) ∙ c.if-node.false in
-    let low = subst (λ (k : ℕ). get_or c.args.name.now 0 0 < k) (ap (λ (m : Branch). m.part) c.deref-node.ensures) c.if-first-node-2.true in
-    let less = goes_below c.args.tree.now c.in-Fork.node c.in-Fork.is way c.args.name.now n e f c.in-len1-up.len_at_least tight low in
-    c.best_below-then-first-node-2.ensures.found still way n (subst (λ (m : Branch). reaches m.less way n ≡ true) (sym c.deref-node.ensures) less) f
-
-pub returns-then-node-first-clause-found : goal.returns-then-node-first-clause-found
-returns-then-node-first-clause-found g t c still way n e f =
-    let tight = ap (λ (m : Branch). m.loose) (sym c.deref-node.ensures) ∙ c.if-node.false in
-    let high = subst (λ (k : ℕ). k < get_or c.args.name.now 0 0) (ap (λ (m : Branch). m.part) c.deref-node.ensures) c.if-node-first.true in
-    let greater = goes_above c.args.tree.now c.in-Fork.node c.in-Fork.is way c.args.name.now n e f c.in-len1-up.len_at_least tight high in
-    c.best_below-then-node-first.ensures.found still way n (subst (λ (m : Branch). reaches m.greater way n ≡ true) (sym c.deref-node.ensures) greater) f
-
-pub returns-then-first-node-clause-found : goal.returns-then-first-node-clause-found
-returns-then-first-node-clause-found g t c still way n e f =
-    let greater = c.best_below-best-then-node.ensures in
-    let tight : c.deref-node.result.now.loose_equal ≡ false = search rules in
-    let other = subst (λ (k : ℕ). get_or c.args.name.now 0 0 ≢ k) (ap (λ (m : Branch). m.part) c.deref-node.ensures) c.if-first-node.true in
-    elim (goes_aside c.args.tree.now c.in-Fork.node c.in-Fork.is way c.args.name.now n e f c.in-len1-up.len_at_least (ap (λ (m : Branch). m.loose_equal) (sym c.deref-node.ensures) ∙ tight) other) [
+pub returns-then-is_aside-2-clause-found : goal.returns-then-is_aside-2-clause-found
+returns-then-is_aside-2-clause-found g t c still way n e f =
+    let greater = c.best_below-best-then-node-2.ensures in
+    let tight = ap (λ (m : Branch). m.loose_equal) (sym c.deref-node.ensures) ∙ c.if-is_aside-2.ensures.loose refl in
+    let other = subst (λ (k : ℕ). get_or c.args.name.now 0 0 ≢ k) (ap (λ (m : Branch). m.part) c.deref-node.ensures) (c.if-is_aside-2.ensures.other refl) in
+    elim (goes_aside c.args.tree.now c.in-Fork.node c.in-Fork.is way c.args.name.now n e f c.in-len1-up.len_at_least tight other) [
       | inl less ↦ greater.later.kept n
-          (c.best_below-best.ensures.found (omega (arith, still, greater.fewer)) way n (subst (λ (m : Branch). reaches m.less way n ≡ true) (sym c.deref-node.ensures) less) f)
+          (c.best_below-best-then-node.ensures.found (omega (arith, still, greater.fewer)) way n (subst (λ (m : Branch). reaches m.less way n ≡ true) (sym c.deref-node.ensures) less) f)
       | inr more ↦ greater.found still way n (subst (λ (m : Branch). reaches m.greater way n ≡ true) (sym c.deref-node.ensures) more) f
     ]
 
-pub returns-then-node-clause-later : goal.returns-then-node-clause-later
-returns-then-node-clause-later g t c =
-    later_still (later_still (later_still c.best_below-best.ensures.later c.best_below-best-then-node.ensures.later) c.best_below-best-then-node-2.ensures.later) c.better.ensures.later
-
-pub returns-then-first-node-clause-later : goal.returns-then-first-node-clause-later
-returns-then-first-node-clause-later g t c = later_still c.best_below-best.ensures.later c.best_below-best-then-node.ensures.later
-
-pub returns-clause-later : goal.returns-clause-later
-returns-clause-later g t c = later_still c.best_below-best-2.ensures.later c.better-2.ensures.later
-
-pub returns-then-is_spent-clause-found : goal.returns-then-is_spent-clause-found
-returns-then-is_spent-clause-found g t c still way n e f = is_not_spent _ _ c.is_spent.ensures.spent c.if-is_spent.true still
-
-pub returns-then-is_spent-2-clause-found : goal.returns-then-is_spent-2-clause-found
-returns-then-is_spent-2-clause-found g t c still way n e f = is_not_spent _ _ c.is_spent-2.ensures.spent c.if-is_spent-2.true still
-
-pub returns-in_default-clause-found : goal.returns-in_default-clause-found
-returns-in_default-clause-found g t c still way n e f =
-    absurd (omega (arith, has_number c.args.tree.now c.in-Fork.node c.in-Fork.is way c.args.name.now n e f, c.in_default.len_below))
-
-pub returns-in-Empty-clause-found : goal.returns-in-Empty-clause-found
-returns-in-Empty-clause-found g t c still way n e f = leads_to_none c.args.tree.now c.in-Empty.is way n e
+pub returns-then-is_only_way-clause-found : goal.returns-then-is_only_way-clause-found
+returns-then-is_only_way-clause-found g t c still way n e f =
+    let node = c.in-Fork.node in
+    let equal = c.best_below-best.ensures in
+    let last = c.better.ensures in
+    let no_less = ap (λ (m : Branch). m.less) (sym c.deref-node.ensures) ∙ c.if-is_only_way.ensures.less refl in
+    let no_more = ap (λ (m : Branch). m.greater) (sym c.deref-node.ensures) ∙ c.if-is_only_way.ensures.greater refl in
+    elim (turns c.args.tree.now node c.in-Fork.is way c.args.name.now n e f c.in-len1-up.len_at_least) [
+      | inl less ↦ leads_to_none node.value.less no_less way n less
+      | inr (inl more) ↦ leads_to_none node.value.greater no_more way n more
+      | inr (inr (inl here)) ↦ last.here n (ap (λ (m : Branch). m.row) c.deref-node.ensures ∙ here)
+      | inr (inr (inr on)) ↦ last.later.kept n
+          (equal.found still on.rest n (subst (λ (m : Branch). reaches m.equal on.rest n ≡ true) (sym c.deref-node.ensures) on.leads) on.fits)
+    ]
