@@ -1,5 +1,6 @@
 pub mod BlankLemmas
 pub mod BoundLemmas
+pub mod CauseLemmas
 pub mod DetailLemmas
 pub mod NoFault
 pub mod PolicyFaults

@@ -118,7 +118,7 @@ no_wrong_of ms Access c m g a f cs is gs ss fs five h = some_none _ a ss h.3
 no_wrong_of ms Family c m g a f cs is gs ss fs five h = some_none _ f fs h.4
 no_wrong_of ms AnotherOfPolicy c m g a f cs is gs ss fs five h = h.5 five
 
-no_wrong_array : (ms : Members) (a : Arrays) (key : PolicyKey) → arrays_of ms ≡ Some a → IsKeysFault ms key → ⊥
+pub no_wrong_array : (ms : Members) (a : Arrays) (key : PolicyKey) → arrays_of ms ≡ Some a → IsKeysFault ms key → ⊥
 no_wrong_array ms a key e =
     let there = arrays_there ms a e in
     let groups = stepped (array_at (codes "group") ms) _ a there.1 in

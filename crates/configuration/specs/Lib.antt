@@ -18,3 +18,5 @@ pub mod Details
 pub mod Warnings
 pub mod WarningSentences
 pub mod PolicyFiles
+pub mod Causes
+pub mod CauseTexts

@@ -19,8 +19,8 @@ use policy_text::text_of;
 use std::alloc::{AllocError, Global};
 use toml::{Table, Value};
 
-// The element of an array under a key, if there is one.
-fn row_at<'a>(table: &'a Table, key: &str, row: usize) -> Option<&'a Value>
+/// The element of an array under a key, if there is one.
+pub(crate) fn row_at<'a>(table: &'a Table, key: &str, row: usize) -> Option<&'a Value>
     ensures { option_map (λ v. view v.now) result ≡ row_at key.now row (table_view table.now) }
 {
     match array_at(table, key) {
@@ -29,8 +29,8 @@ fn row_at<'a>(table: &'a Table, key: &str, row: usize) -> Option<&'a Value>
     }
 }
 
-// The table that a value is, if it is there and is one.
-fn table_in(value: Option<&Value>) -> Option<&Table>
+/// The table that a value is, if it is there and is one.
+pub(crate) fn table_in(value: Option<&Value>) -> Option<&Table>
     ensures { option_map (λ t. table_view t.now) result
         ≡ table_in (option_map (λ v. view v.now) value.entry) }
 {
@@ -114,8 +114,8 @@ fn name_rule(which: PolicyTable) -> &'static str
     }
 }
 
-// What the key of a row is to hold.
-fn field_text(which: PolicyTable, key: RowKey) -> &'static str
+/// What the key of a row is to hold.
+pub(crate) fn field_text(which: PolicyTable, key: RowKey) -> &'static str
     ensures { result.now ≡ field_text which key }
 {
     match key {
@@ -150,8 +150,8 @@ fn name_length(which: PolicyTable) -> &'static str
     }
 }
 
-// How long the text of a row's key may be.
-fn length_text(which: PolicyTable, key: RowKey) -> &'static str
+/// How long the text of a row's key may be.
+pub(crate) fn length_text(which: PolicyTable, key: RowKey) -> &'static str
     ensures { result.now ≡ length_text which key }
 {
     match key {
@@ -207,8 +207,8 @@ fn length_detail(which: PolicyTable, row: Option<&Table>) -> &'static str
     }
 }
 
-// The key under which the rows of a table stand.
-fn rows_key(which: PolicyTable) -> &'static str
+/// The key under which the rows of a table stand.
+pub(crate) fn rows_key(which: PolicyTable) -> &'static str
     ensures { result.now ≡ rows_key which }
 {
     match which {

@@ -40,6 +40,8 @@
 #![tactic(auto)]
 
 mod address;
+mod cause_texts;
+mod causes;
 mod configuration;
 mod details;
 mod fault;
@@ -60,11 +62,13 @@ mod warning;
 mod warning_sentences;
 mod warnings;
 
+pub use causes::{PolicyCause, WrongField, WrongRow, policy_alone_in};
 pub use configuration::{BUILT_IN, Configuration, MAX_ROUNDS, MAX_WORKERS, Port, Serve};
 pub use details::sentence_in;
 pub use fault::{ConfigurationFault, PolicyKey, PortKey, ServeKey};
 pub use policy_files::{policy_file_in, policy_part_in, policy_sentence_in};
 pub use reading::{configuration_in, configuration_of, configuration_of_text};
+pub use rows::RowKey;
 pub use sentences::NO_MEMORY;
 pub use shown::{MAX_MESSAGE_SHOWN, MAX_NAME_SHOWN};
 pub use warning::{PortWarning, RowWarning, Warning};

@@ -46,8 +46,8 @@ pub fn table_key(table: PolicyTable) -> &'static str
     }
 }
 
-// Which keys no earlier row may have. Contexts may be equal, so no fault is reported of one by this.
-fn key_rule(table: PolicyTable) -> &'static str
+/// Which keys no earlier row may have. Contexts may be equal, so no fault is reported of one by this.
+pub fn key_rule(table: PolicyTable) -> &'static str
     ensures { result.now ≡ key_rule table }
 {
     match table {
