@@ -13,7 +13,8 @@
 //! a port and its [`PortWarning`]; [`warning_sentence`] is what an operator reads of it.
 //! [`policy_file_in`] reads the file of a policy, alone or in a whole configuration, of whose fault
 //! [`policy_sentence_in`] is the sentence; [`policy_part_in`] has the policy of a configuration as a
-//! text of its own. [`BUILT_IN`] is the text where none is given; [`MAX_WORKERS`] and [`MAX_ROUNDS`]
+//! text of its own. [`policy_alone_in`] reads octets of a policy alone, or gives the [`PolicyCause`], which
+//! has none of their text: of a [`WrongRow`] its [`WrongField`] or [`RowKey`]. [`BUILT_IN`] is the text where none is given; [`MAX_WORKERS`] and [`MAX_ROUNDS`]
 //! bound what serves.
 //!
 //! # Definitions
@@ -25,7 +26,8 @@
 //! a text; `specs/Sentences.antt`: the text of each fault by itself; `specs/Details.antt`: that by the
 //! text it is in, for which `specs/AddressFaults.antt`, `specs/KnownKeys.antt` and `specs/Rows.antt` say
 //! which key is wrong or unknown; `specs/Shown.antt`: how a stranger's text is printed;
-//! `specs/PolicyFiles.antt`: what the file of a policy says; `specs/Warnings.antt`: what is warned of, and
+//! `specs/PolicyFiles.antt`: what the file of a policy says; `specs/Causes.antt`: why octets are no policy
+//! alone, and `specs/CauseTexts.antt`: the text of that; `specs/Warnings.antt`: what is warned of, and
 //! `specs/WarningSentences.antt`: the text of each warning.
 //!
 //! # Laws

@@ -1,5 +1,5 @@
--- The octets of the commands that are sent to a served agent, and which answers refuse them.
-use Rattle.std.specs.Prelude.{ℕ, Bool, true, false, ◌||◌, codes, nat_eq, bytes_eq, if◌then◌else◌, List, [], ◌∷◌, ◌++◌}
+-- The octets of the commands that are sent to a served agent.
+use Rattle.std.specs.Prelude.{ℕ, Bool, true, false, codes, nat_eq, if◌then◌else◌, List, [], ◌∷◌, ◌++◌}
 use Rattle.std.specs.List.{ends_with}
 
 -- a link's direction, behind the port
@@ -20,9 +20,3 @@ line_end (octet ∷ octets) =
 -- `policy`, the lines of a text, and `end`
 abbrev pub policy_octets : List ℕ → List ℕ
 policy_octets text = codes "policy\n" ++ (text ++ (line_end text ++ codes "end\n"))
-
--- an answer says that a command was not done: it was none, its policy was refused, or there was no memory
--- or no number for its event
-abbrev pub is_refusal : List ℕ → Bool
-is_refusal answer = bytes_eq answer (codes "badline\n") || (bytes_eq answer (codes "policy refused\n")
-    || (bytes_eq answer (codes "short\n") || bytes_eq answer (codes "full\n")))

@@ -1,6 +1,6 @@
-//! The octets of a command, and what an answer says of it.
+//! The octets of a command.
 ghost use Rattle.std.specs.Prelude.{◌≡◌, IfOk};
-ghost use Rattle.control_socket.specs.Sent.{direction_octets, link_octets, line_end, policy_octets, is_refusal};
+ghost use Rattle.control_socket.specs.Sent.{direction_octets, link_octets, line_end, policy_octets};
 
 use std::alloc::{AllocError, Global};
 
@@ -52,14 +52,4 @@ pub fn policy_command(alloc: Global, text: &[u8]) -> Result<Vec<u8>, AllocError>
     octets.extend_from_slice(line_end(text))?;
     octets.extend_from_slice(b"end\n")?;
     Ok(octets)
-}
-
-/// Whether an answer says that a command was not done.
-pub fn is_refusal(answer: &[u8]) -> bool
-    ensures { result ≡ is_refusal answer.now }
-{
-    answer == b"badline\n".as_slice()
-        || answer == b"policy refused\n".as_slice()
-        || answer == b"short\n".as_slice()
-        || answer == b"full\n".as_slice()
 }

@@ -6,11 +6,11 @@
 //! it answers over that connection, and ends it. It takes none until all tasks of the agent's start have
 //! begun. [`ask_agent`] is the other end: it sends a command to
 //! such a socket, and gives what is answered; [`link_command`], [`policy_command`] and [`COUNTS`] are the
-//! commands, and [`is_refusal`] says whether an answer refuses one.
+//! commands.
 //!
 //! # Definitions
 //! `specs/Whole.antt`: when a command is whole; `specs/Places.antt`: which directory a socket may be in;
-//! `specs/Sent.antt`: the octets of commands, and which answers refuse them.
+//! `specs/Sent.antt`: the octets of commands.
 //!
 //! # Laws
 //! On a receive: what it gives is no longer than the slice; it fails only with `WireFault::Receive`, and
@@ -33,7 +33,7 @@ mod socket;
 
 pub use asking::{MAX_ANSWER, ask_agent};
 pub use binding::bind_control;
-pub use command::{COUNTS, is_refusal, link_command, policy_command};
+pub use command::{COUNTS, link_command, policy_command};
 pub use fault::ControlFault;
 pub use reading::COMMAND_WAIT_MILLIS;
 pub use socket::{ControlSocket, OPERATOR_WAIT_MILLIS};

@@ -6,7 +6,7 @@ use Rattle.frame_core.specs.declared.mac.Mac.{Mac}
 use Rattle.frame_core.specs.declared.bpdu.Bpdu.{Bpdu}
 use Rattle.frame_core.specs.Sending.{frame_octets}
 use Rattle.control_text.specs.declared.command.CommandFault.{CommandFault}
-use Rattle.control_text.specs.declared.command.CommandFault.TheVariants.{BadLine, NoPolicy, Memory}
+use Rattle.control_text.specs.declared.command.CommandFault.TheVariants.{BadLine, CutPolicy, LongPolicy, NoPolicy, Memory}
 
 -- a BPDU that a port sends, as the frame that the bridge of this address sends
 abbrev pub bpdu_line : Mac → ℕ → Option Bpdu → List ℕ
@@ -30,5 +30,7 @@ counts_line counts = codes "counts" ++ flat_map space_and_number counts ++ codes
 -- what is answered to octets that are refused
 abbrev pub refusal_line : CommandFault → List ℕ
 refusal_line BadLine = codes "badline\n"
-refusal_line NoPolicy = codes "policy refused\n"
+refusal_line CutPolicy = codes "policy refused\n"
+refusal_line LongPolicy = codes "policy refused\n"
+refusal_line (NoPolicy cause) = codes "policy refused\n"
 refusal_line Memory = codes "policy refused\n"

@@ -4,11 +4,12 @@ use Rattle.std.specs.List.{list_all, starts_with, ends_with}
 use Rattle.script_core.specs.Words.{split_word, number_of}
 use Rattle.policy_text.specs.Texts.{policy_in, HasContent}
 use Rattle.community_core.specs.Communities.{PolicyTables}
+use Rattle.configuration.specs.Causes.{IsCause}
 use Rattle.control_text.specs.declared.command.TheConstants.{MAX_POLICY}
 use Rattle.control_text.specs.declared.command.Command.{Command}
 use Rattle.control_text.specs.declared.command.Command.TheVariants.{Link, Policy, Counts}
 use Rattle.control_text.specs.declared.command.CommandFault.{CommandFault}
-use Rattle.control_text.specs.declared.command.CommandFault.TheVariants.{BadLine, NoPolicy, Memory}
+use Rattle.control_text.specs.declared.command.CommandFault.TheVariants.{BadLine, CutPolicy, LongPolicy, NoPolicy, Memory}
 
 pub data Asked : Type 0 where
   -- none: it is no command
@@ -19,8 +20,10 @@ pub data Asked : Type 0 where
   counts : Asked
   -- a policy of this text, which stands between the lines `policy` and `end`
   policy : (text : List ℕ) → Asked
-  -- a policy that has no `end`, or a text of more than 65,536 octets
+  -- a policy that has no `end`, and no more than 65,536 octets so far
   cut_policy : Asked
+  -- a policy of more than 65,536 octets, with its `end` or without it
+  long_policy : Asked
 
 -- the octets, but a line feed that ends them
 abbrev pub without_end : List ℕ → List ℕ
@@ -86,14 +89,16 @@ before_end octets =
     else if ends_with nat_eq octets (codes "\nend") then Some (take (length octets - 3) octets)
     else None
 
--- a policy's text, if it ends and is not too long
-abbrev pub policy_with : Option (List ℕ) → Asked
-policy_with (Some text) = if nat_le (length text) MAX_POLICY then policy text else cut_policy
-policy_with None = cut_policy
+-- a policy's text, if it ends and is not too long; of octets without an end whether they are too long
+abbrev pub policy_with : List ℕ → Option (List ℕ) → Asked
+policy_with octets (Some text) =
+    if nat_le (length text) MAX_POLICY then policy text else long_policy
+policy_with octets None =
+    if nat_le (length octets) MAX_POLICY then cut_policy else long_policy
 
 -- the octets behind a first line `policy`
 unfoldable pub asked_behind_policy : List ℕ → Asked
-asked_behind_policy octets = policy_with (before_end octets)
+asked_behind_policy octets = policy_with octets (before_end octets)
 
 -- ---- a command
 
@@ -124,17 +129,22 @@ IsReadAs (link port up) command = command ≡ Link port up
 IsReadAs counts command = command ≡ Counts
 IsReadAs (policy text) command = (tables : PolicyTables) × (policy_in text ≡ Some tables) × (command ≡ Policy tables)
 IsReadAs cut_policy command = ⊥
+IsReadAs long_policy command = ⊥
 
--- Why octets are refused: they are no command; or their policy is cut off, is too long or says none;
--- or there was no memory for a policy, which only one whose text is not blank takes.
+-- Why octets are refused: they are no command; or their policy is cut off; or it is too long; or its text
+-- says none, for its first fault; or there was no memory for a policy, which only one whose text is not
+-- blank takes.
 abbrev pub IsRefusedAs : Asked → CommandFault → Type 0
 IsRefusedAs bad_line refusal = refusal ≡ BadLine
 IsRefusedAs (link port up) refusal = ⊥
 IsRefusedAs counts refusal = ⊥
 IsRefusedAs (policy text) BadLine = ⊥
-IsRefusedAs (policy text) NoPolicy = policy_in text ≡ None
+IsRefusedAs (policy text) CutPolicy = ⊥
+IsRefusedAs (policy text) LongPolicy = ⊥
+IsRefusedAs (policy text) (NoPolicy cause) = (policy_in text ≡ None) × IsCause text cause
 IsRefusedAs (policy text) Memory = HasContent text
-IsRefusedAs cut_policy refusal = refusal ≡ NoPolicy
+IsRefusedAs cut_policy refusal = refusal ≡ CutPolicy
+IsRefusedAs long_policy refusal = refusal ≡ LongPolicy
 
 -- octets were read so, or refused so
 abbrev pub IsRead : Asked → Result Command CommandFault → Type 0

@@ -4,6 +4,7 @@ ghost use Rattle.control_text.specs.Commands.{asked_by, asked_by_line, line_with
 
 use crate::policy_part::read_policy;
 use community_core::Policy;
+use configuration::PolicyCause;
 use script_core::words::{read_number, split_word};
 use std::alloc::Global;
 
@@ -29,8 +30,12 @@ pub enum Command {
 pub enum CommandFault {
     /// They are no command.
     BadLine,
-    /// Their policy has no `end` or too many octets, or its text says none.
-    NoPolicy,
+    /// Their policy has no `end`, and not too many octets so far.
+    CutPolicy,
+    /// Their policy has more than [`MAX_POLICY`] octets.
+    LongPolicy,
+    /// The text of their policy says none, for this cause, in which there is none of the text.
+    NoPolicy(PolicyCause),
     /// There was no memory for their policy.
     Memory,
 }
@@ -39,15 +44,16 @@ pub enum CommandFault {
 /// says nothing.
 ///
 /// # Errors
-/// `BadLine` for octets that are no command; `NoPolicy` for a policy without its `end`, with more than
-/// [`MAX_POLICY`] octets, or whose text says none; `Memory` where there is none for a policy.
+/// `BadLine` for octets that are no command; `CutPolicy` for a policy without its `end`, `LongPolicy` for
+/// one of more than [`MAX_POLICY`] octets, with its `end` or without it; `NoPolicy` for one whose text says
+/// none; `Memory` where there is none for a policy, or to find the cause.
 #[tactic(auto, unfolding(crate::specs::Commands::asked_by))]
 pub fn read_command(alloc: Global, ports: u16, octets: &[u8]) -> Result<Command, CommandFault>
     ensures { IsRead (asked_by ports octets.now) result }
 {
     let command = without_end(octets);
     if command == b"policy".as_slice() {
-        return Err(CommandFault::NoPolicy);
+        return Err(CommandFault::CutPolicy);
     }
     if command.starts_with(b"policy\n") {
         return read_policy(alloc, &command[7..]);

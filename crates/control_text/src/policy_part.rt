@@ -3,7 +3,7 @@ ghost use Rattle.std.specs.Prelude.{◌≡◌, ◌≤◌, length, option_map};
 ghost use Rattle.control_text.specs.Commands.{policy, asked_behind_policy, before_end, IsRead};
 
 use crate::command::{Command, CommandFault, MAX_POLICY};
-use policy_text::policy_in;
+use configuration::policy_alone_in;
 use std::alloc::Global;
 
 /// The policy of the octets behind a first line `policy`.
@@ -13,7 +13,8 @@ pub(crate) fn read_policy(alloc: Global, octets: &[u8]) -> Result<Command, Comma
 {
     match before_end(octets) {
         Some(text) if text.len() <= MAX_POLICY => read_text(alloc, text),
-        Some(_) | None => Err(CommandFault::NoPolicy),
+        None if octets.len() <= MAX_POLICY => Err(CommandFault::CutPolicy),
+        Some(_) | None => Err(CommandFault::LongPolicy),
     }
 }
 
@@ -34,9 +35,9 @@ fn before_end(octets: &[u8]) -> Option<&[u8]>
 fn read_text(alloc: Global, text: &[u8]) -> Result<Command, CommandFault>
     ensures { IsRead (policy text.now) result }
 {
-    match policy_in(alloc, text) {
-        Ok(Some(policy)) => Ok(Command::Policy(policy)),
-        Ok(None) => Err(CommandFault::NoPolicy),
+    match policy_alone_in(alloc, text) {
+        Ok(Ok(policy)) => Ok(Command::Policy(policy)),
+        Ok(Err(cause)) => Err(CommandFault::NoPolicy(cause)),
         Err(_) => Err(CommandFault::Memory),
     }
 }

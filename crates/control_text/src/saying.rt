@@ -15,7 +15,10 @@ pub fn say_refusal(refusal: CommandFault) -> &'static [u8]
 {
     match refusal {
         CommandFault::BadLine => b"badline\n",
-        CommandFault::NoPolicy | CommandFault::Memory => b"policy refused\n",
+        CommandFault::CutPolicy
+        | CommandFault::LongPolicy
+        | CommandFault::NoPolicy(_)
+        | CommandFault::Memory => b"policy refused\n",
     }
 }
 

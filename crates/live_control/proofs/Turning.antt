@@ -11,7 +11,7 @@ use Rattle.live_lock.specs.Sharing.{entry_count}
 use Rattle.live_sending.specs.Packets.{bpdu_packets}
 use Rattle.live_sending.specs.Sending.{Sends}
 use Rattle.live_agent.specs.declared.trace.End.{End}
-use Rattle.control_text.specs.Commands.{Asked, bad_line, link, counts, policy, cut_policy, IsReadAs}
+use Rattle.control_text.specs.Commands.{Asked, bad_line, link, counts, policy, cut_policy, long_policy, IsReadAs}
 use Rattle.control_text.specs.declared.command.Command.TheVariants.{Counts}
 use Rattle.live_control.specs.Answers.{answer_by}
 use Rattle.live_control.specs.Deeds.{Deed, all_acted}
@@ -55,3 +55,4 @@ asks_counts (link port up) is = cc
 asks_counts counts is = refl
 asks_counts (policy text) is = let other = is.2 in cc
 asks_counts cut_policy is = absurd is
+asks_counts long_policy is = absurd is
