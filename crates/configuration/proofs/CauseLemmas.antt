@@ -6,8 +6,7 @@ use Rattle.toml.specs.Errors.{IsBlank}
 use Rattle.toml.specs.Parse.{parse_document}
 use Rattle.community_core.specs.Communities.{PolicyTables}
 use Rattle.community_core.specs.declared.fault.PolicyTable.{PolicyTable}
-use Rattle.policy_text.specs.Policies.{Arrays, arrays_of}
-use Rattle.policy_text.specs.Reading.{◌>=>◌}
+use Rattle.policy_text.specs.Policies.{arrays_of}
 use Rattle.policy_text.specs.Stated.{policy_of_members}
 use Rattle.policy_text.specs.Texts.{text_of, policy_in}
 use Rattle.policy_text.proofs.BlankLemmas.{no_keys}
@@ -18,7 +17,7 @@ use Rattle.configuration.specs.declared.causes.WrongRow.TheVariants.{Twice, Leng
 use Rattle.configuration.specs.declared.causes.PolicyCause.{PolicyCause}
 use Rattle.configuration.specs.declared.causes.PolicyCause.TheVariants.{NoText, NoDocument, Keys, Row}
 use Rattle.configuration.specs.PolicyKeys.{HasKeys, IsKeysFault}
-use Rattle.configuration.specs.Causes.{IsRowCause, IsTableCause, IsLineCause, IsText, IsTextCause, IsCause, IsAlone}
+use Rattle.configuration.specs.Causes.{IsRowCause, IsTableCause, IsLineCause, IsText, IsAlone}
 use Rattle.configuration.proofs.NoFault.{no_wrong_array}
 
 none_of : {A : Type 0} (o : Option A) → ((a : A) → o ≡ Some a → ⊥) → o ≡ None

@@ -5,7 +5,7 @@ ghost use Rattle.toml.specs.View.{table_view};
 ghost use Rattle.community_core.specs.declared.fault.PolicyFault.TheVariants.{Memory};
 ghost use Rattle.policy_text.specs.Texts.{HasContent};
 ghost use Rattle.configuration.specs.PolicyKeys.{HasKeys};
-ghost use Rattle.configuration.specs.Causes.{wrong_field, wrong_length, row_of, HasRowFault, IsTableCause, IsTextCause, IsLineCause, IsTable, IsText, IsAlone};
+ghost use Rattle.configuration.specs.Causes.{wrong_field, wrong_length, row_of, HasRowFault, IsTableCause, IsLineCause, IsTable, IsText, IsAlone};
 
 use crate::details::{row_at, rows_key, table_in};
 use crate::fault::PolicyKey;

@@ -3,7 +3,7 @@
 //!
 //! # Entry points
 //! [`read_command`] reads octets: it gives the [`Command`], a link, a policy or the counts, or the
-//! [`CommandFault`]. [`say_refusal`], [`say_bpdus`] and [`say_counts`] write answers. A policy's text
+//! [`CommandFault`], which has none of a policy's text. [`say_refusal`], [`say_bpdus`] and [`say_counts`] write answers. A policy's text
 //! has at most [`MAX_POLICY`] octets, a command at most [`MAX_COMMAND`].
 //!
 //! # Definitions

@@ -1,4 +1,4 @@
-use Rattle.std.proofs.Common.{◌≡◌, ◌≤◌, length, refl, arith}
+use Rattle.std.proofs.Common.{◌≤◌, length, refl, arith}
 use Rattle.toml.specs.Errors.{IsMemory}
 use Rattle.configuration.proofs.CauseLemmas.{there_is}
 use Rattle.configuration.proofs.causes.line_cause.Goals as goal
