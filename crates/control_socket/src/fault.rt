@@ -31,6 +31,10 @@ impl From<io::Error> for ControlFault {
 }
 
 impl Display for ControlFault {
+    ghost use Rattle.control_socket.specs.Faults.{fault_text};
+
+    ghost output = { fault_text };
+
     fn fmt<W: fmt::Write>(&self, f: &mut Formatter<W>) -> fmt::Result {
         match self {
             ControlFault::NoDirectory => f.write_str("the control socket is in no directory"),
