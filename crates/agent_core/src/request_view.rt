@@ -16,6 +16,10 @@ const FEW_NAMES: usize = 3;
 // The most family rows that so many names compare in all, before each object is asked of once.
 const FEW_ROWS: usize = 3_000;
 
+// The most family rows that so many names compare in all where each walk asks for a front at each object
+// at which it stands.
+const FRONT_ROWS: usize = 1_000;
+
 // An object, and whether a view is seen to hide it whole.
 #[derive(Drop)]
 struct KnownObject<'a> {
@@ -31,6 +35,8 @@ pub struct RequestView<'a> {
     name: &'a Name,
     // By the places of the objects; where nothing is known there is none.
     objects: Vec<KnownObject<'a>>,
+    // Whether answers have fronts.
+    gives_fronts: bool,
 }
 
 impl<'a> Model for RequestView<'a> {
@@ -69,7 +75,8 @@ fn known_objects<'a, O: MibObject>(
 
 impl<'a> RequestView<'a> {
     /// The view of a request with so many names. Of many names under many rows the view is asked of
-    /// each object once, ahead of them, as far as there is memory for it; no answer depends on that.
+    /// each object once, ahead of them, as far as there is memory for it, and its answers have no fronts,
+    /// each of which compares all rows. No answer depends on that.
     pub fn of<O: MibObject>(
         alloc: Global,
         vacm: &'a Vacm,
@@ -80,8 +87,8 @@ impl<'a> RequestView<'a> {
         ensures families { result.families ≡ vacm.now.families }
         ensures view { result.view ≡ name.now }
     {
-        let is_few = names <= FEW_NAMES || names.saturating_mul(vacm.family_count()) <= FEW_ROWS;
-        let objects = if is_few {
+        let compared = names.saturating_mul(vacm.family_count());
+        let objects = if names <= FEW_NAMES || compared <= FEW_ROWS {
             Vec::new(alloc)
         } else {
             known_objects(alloc, vacm, name, registry)
@@ -90,6 +97,7 @@ impl<'a> RequestView<'a> {
             vacm,
             name,
             objects,
+            gives_fronts: compared <= FRONT_ROWS,
         }
     }
 
@@ -111,8 +119,8 @@ impl<'a> RequestView<'a> {
         self.vacm.in_view(self.name, name).is_included()
     }
 
-    /// Whether a name is in the view, and the shortest front of it under which the answer holds for every
-    /// name (`Vacm::in_view_under`). It takes no memory.
+    /// Whether a name is in the view, and, where answers have fronts, the shortest front of it under which the
+    /// answer holds for every name (`Vacm::in_view_under`). It takes no memory.
     pub fn under(&self, name: &Oid) -> FrontAnswer
         ensures answer { result.answer ≡ family_answer self.now.families self.now.view name.now }
         ensures shown { IfSome result.front (λ k. (k ≤ length name.now)
@@ -120,6 +128,13 @@ impl<'a> RequestView<'a> {
             is_prefix (take k name.now) other ≡ true
             → in_view self.now.families self.now.view other ≡ true)) }
     {
-        self.vacm.in_view_under(self.name, name)
+        if self.gives_fronts {
+            self.vacm.in_view_under(self.name, name)
+        } else {
+            FrontAnswer {
+                answer: self.vacm.in_view(self.name, name),
+                front: None,
+            }
+        }
     }
 }

@@ -8,8 +8,8 @@ use std::marker::Model;
 use std::mem::swap;
 
 /// Entries, with memory for [`MAX_ENTRIES`]. Once they are cleared they lie aside, and each new one
-/// drops one of them: so no event has to drop all of them, under a lock. No clause says when one
-/// is dropped.
+/// drops one of them: so no event has to drop all of them, under a lock. Both together are never more
+/// than [`MAX_ENTRIES`].
 pub struct Entries {
     kept: Vec<Entry>,
     past: Vec<Entry>,
@@ -26,7 +26,7 @@ impl Drop for Entries {
 }
 
 impl Model for Entries {
-    ghost use Rattle.std.specs.Prelude.{◌≤◌, List, vec_capacity};
+    ghost use Rattle.std.specs.Prelude.{◌≤◌, ◌+◌, List, length, vec_capacity};
     ghost use Rattle.history_core.specs.declared.entry.Entry.{Entry};
     ghost use Rattle.history_core.specs.declared.limits.TheConstants.{MAX_ENTRIES};
 
@@ -35,7 +35,8 @@ impl Model for Entries {
     ghost view = { λ e. e.kept.items };
 
     ghost invariant = { λ e.
-        (MAX_ENTRIES ≤ vec_capacity e.kept) × (MAX_ENTRIES ≤ vec_capacity e.past) };
+        (MAX_ENTRIES ≤ vec_capacity e.kept) × (MAX_ENTRIES ≤ vec_capacity e.past)
+        × (length e.kept.items + length e.past.items ≤ MAX_ENTRIES) };
 }
 
 impl Entries {

@@ -17,7 +17,7 @@
 //! On the parts: an offer appends the line to the text that waits exactly where that stays within its most
 //! octets; a step writes a front of what the output is still to take, in order and once; a text that is
 //! given up counts the lines that are not written whole, and what comes next begins with a line feed
-//! exactly where the output stands inside a line.
+//! exactly where the output stands inside a line. In [`laws`]: the limits are what they are.
 //!
 //! # Not claimed
 //! That a line that is offered is written: no clause follows a value through a lock. That a line of the
@@ -26,6 +26,7 @@
 //! does that is stopped: a write of 4,096 octets may wait there.
 #![tactic(auto)]
 
+pub mod laws;
 mod lost;
 mod outlet;
 mod pending;

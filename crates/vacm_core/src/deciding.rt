@@ -98,11 +98,10 @@ pub fn is_longer_or_greater(row: &FamilyRow, other: &FamilyRow) -> bool
 {
     let subtree = row.subtree.as_slice();
     let other = other.subtree.as_slice();
-    other
-        .len()
-        .cmp(&subtree.len())
-        .then(other.cmp(subtree))
-        .is_lt()
+    if other.len() != subtree.len() {
+        return other.len() < subtree.len();
+    }
+    other.cmp(subtree).is_lt()
 }
 
 /// Whether a context is known.

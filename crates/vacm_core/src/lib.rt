@@ -39,9 +39,10 @@
 //! Inside the crate: `specs/Trees.antt`: which family rows a tree leads to, by which numbers. A
 //! `Vacm` keeps a radix tree of its family rows, and `Vacm::in_view` goes by it, or by the order of
 //! their indexes (`specs/OfView.antt`): the row that it finds is the one that decides among all of
-//! them. Of more than 64 rows it goes by bitmaps there (`specs/Bitmaps.antt`). `specs/Keys.antt`: the
-//! order of rows by their keys, by which a `Vacm` finds a group row, the access rows of a group,
-//! whether a view has a family, and a family row by its index.
+//! them. Of more than 64 rows it goes by bitmaps there (`specs/Bitmaps.antt`), and keeps at which
+//! places of that order the rows of each view are likely to begin. `specs/Keys.antt`: the order of
+//! rows by their keys, by which a `Vacm` finds a group row, the access rows of a group, whether a
+//! view has a family, and a family row by its index.
 //!
 //! # Laws
 //! In [`laws`]: a row decides wherever one fits. Of the names below a prefix, which a family has.
