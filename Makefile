@@ -1,4 +1,30 @@
-.PHONY: run serve lab test bench growths scripts udp-session hostile attacks endurance wrong-bodies networks
+.PHONY: run serve feeder feeder-test lab test bench growths scripts udp-session hostile attacks endurance wrong-bodies networks
+
+.PHONY: build prove install uninstall deb
+
+# Compiles both programs with checks, proves nothing, and leaves them as build/agentd-try and build/manager-try.
+build:
+	tools/build
+
+# Builds both programs, proved, and leaves them as build/agentd and build/manager.
+prove:
+	cd crates/agentd && rt run < stdin > /dev/null
+	cd crates/manager && (rt run 2> /dev/null || test $$? -eq 2)
+	tools/build --proved
+
+# Installs what `make prove` has left, with the feeder, units, pages and completions, below PREFIX, in front of which DESTDIR stands.
+PREFIX = /usr/local
+DESTDIR =
+install:
+	tools/install --prefix "$(PREFIX)" --destdir "$(DESTDIR)"
+
+# Removes the same files.
+uninstall:
+	tools/install --remove --prefix "$(PREFIX)" --destdir "$(DESTDIR)"
+
+# Packs the same files for dpkg, below /usr, in build.
+deb:
+	tools/package build
 
 # Answers some worked lines. It compiles and runs, and proves nothing.
 run:
@@ -8,15 +34,44 @@ run:
 serve:
 	tools/serve
 
+# Compiles the feeder, with the C library and Linux alone.
+FEEDER_FLAGS = -std=c11 -D_GNU_SOURCE -O2 -ftree-vectorize -pthread -Wall -Wextra -Wpedantic -Wconversion -Wshadow -Werror
+FEEDER_SOURCES = $(addprefix feeder/,main.c configuration.c addresses.c sockets.c incoming.c outgoing.c sending.c frames.c links.c log.c)
+FEEDER_HEADERS = $(addprefix feeder/,port.h frames.h sending.h)
+SANITIZERS = -g -fsanitize=address,undefined -fno-sanitize-recover=all
+
+feeder: build/agentd-feeder
+
+build/agentd-feeder: $(FEEDER_SOURCES) $(FEEDER_HEADERS)
+	mkdir -p build
+	$(CC) $(FEEDER_FLAGS) -o $@ $(FEEDER_SOURCES)
+
+# Tries what reads frames with random and built ones, and runs the feeder in network namespaces, where root has them; both under the
+# sanitizers of addresses and of undefined behaviour.
+feeder-test: build/frames-test build/agentd-feeder-sanitized
+	build/frames-test
+	tools/feeder-session --feeder build/agentd-feeder-sanitized
+
+FRAMES_TEST = $(addprefix feeder/,frames_test.c frames.c sockets.c addresses.c log.c)
+
+build/frames-test: $(FRAMES_TEST) feeder/incoming.c $(FEEDER_HEADERS)
+	mkdir -p build
+	$(CC) $(FEEDER_FLAGS) $(SANITIZERS) -o $@ $(FRAMES_TEST)
+
+build/agentd-feeder-sanitized: $(FEEDER_SOURCES) $(FEEDER_HEADERS)
+	mkdir -p build
+	$(CC) $(FEEDER_FLAGS) $(SANITIZERS) -o $@ $(FEEDER_SOURCES)
+
 # Reads the words of documents, comments, printed texts and names, and whether each function that may answer that there is no memory
 # has its row; proves every crate, tries the must-fail edits, runs the tests and the programs; then runs the agent so built over the
 # stored scripts and over a random one, refuses its growths of memory for names in turn, runs it as the bridges of stored and of random
 # networks, and serves it over UDP, where the manager and, if it is there, Net-SNMP ask it, and where four clients ask it at the same
-# time, which a script replays; then runs the manager by stored runs, in which the agent is played; last, where root has network
-# namespaces, it tries the feeder, and by it the agent between two hosts.
+# time, which a script replays; then runs the manager by stored runs, in which the agent is played, and installs both programs into a
+# folder, and checks what lies there; last, where root has network namespaces, it tries the feeder, under sanitizers and without, and by
+# it the agent between two hosts.
 # As many checks run at a time as there are processors, each in one job, since a check in two takes some half more processor time. rt
 # then takes no account of free memory: have some 4 GB for each processor, or give a smaller RT_JOBS.
-test:
+test: feeder
 	tools/words
 	tools/wants-of-memory --check
 	RT_JOBS=$${RT_JOBS:-$$(nproc)} rt ci
@@ -28,6 +83,8 @@ test:
 	tools/udp-session
 	tools/replay
 	tools/manager-session
+	tools/install-session
+	$(MAKE) feeder-test
 	tools/feeder-session
 	tools/lab --hosts
 
@@ -75,7 +132,7 @@ endurance:
 	tools/endurance
 
 # Builds agentd, proved, and tries it as root, in network namespaces, between hosts, beside a Linux bridge and beside Open vSwitch.
-lab:
+lab: feeder
 	tools/lab --spaces
 	cd crates/agentd && rt run < stdin > /dev/null
 	tools/lab

@@ -1,5 +1,5 @@
 -- What the program does with a file, by what was read of it.
-use Rattle.std.proofs.Common.{ℕ, List, Option, Result, Ok, Vec, inl}
+use Rattle.std.proofs.Common.{ℕ, List, Option, Result, Ok, Vec, false, inl}
 use Rattle.std.specs.Borrow.{Bor}
 use Rattle.std.specs.declared.alloc.Global.{Global}
 use Rattle.setphase_core.specs.Objects.{ObjectState}
@@ -12,9 +12,9 @@ use Rattle.agent_words.specs.declared.asked.Lasting.{Lasting}
 use Rattle.agent_program.specs.Files.{IsReadWithin, IsReadOf, read_view}
 use Rattle.message_core.specs.declared.request.Request.{Request}
 use Rattle.agent_words.specs.Orders.{policy}
-use Rattle.agent_program.specs.Commands.{IsSent, IsPolicyCommand, IsPolicyEnd, SendsRead, SendsFile}
+use Rattle.agent_program.specs.Commands.{EndsBy, IsPolicyCommand, IsPolicyEnd, heard, EndsOtherwise, EndsPolicy, SendsRead, SendsFile}
 use Rattle.agent_program.specs.Explanations.{ExplainsRead, ExplainsFile, ExplainsPolicyRead, ExplainsPolicyFile}
-use Rattle.agent_program.specs.Reporting.{IsFileChecked, IsCheckOf, IsPolicyFileChecked, IsPolicyCheckOf}
+use Rattle.agent_program.specs.Reporting.{IsFileChecked, IsCheckOf, IsPortsFileChecked, IsPortsCheckOf, IsPolicyFileChecked, IsPolicyCheckOf}
 use Rattle.agent_program.specs.Services.{Service, OpensRead, OpensFile}
 use Rattle.agent_program.specs.Programs.{RunsRead, RunsFile}
 
@@ -40,6 +40,15 @@ pub file_check : {O : Type 0} (Gives : List ℕ → Result (List ℕ) NotRead �
     → IsFileChecked contents (read_view read) writer writer' ended
     → IsCheckOf Gives contents file writer writer' ended
 file_check Gives contents file read writer writer' ended within gave checked =
+    record { read = read_view read; is = read_of Gives Configuration file read within gave; checked = checked }
+
+pub file_ports_check : {O : Type 0} (Gives : List ℕ → Result (List ℕ) NotRead → Type 0)
+    (contents : O → Option (List ℕ)) (file : List ℕ) (read : Result (Vec ℕ Global) NotRead)
+    (writer writer' : O) (ended : Result (Unit {0}) Failure)
+    → IsReadWithin file Configuration (read_view read) → Gives file (read_view read)
+    → IsPortsFileChecked contents (read_view read) writer writer' ended
+    → IsPortsCheckOf Gives contents file writer writer' ended
+file_ports_check Gives contents file read writer writer' ended within gave checked =
     record { read = read_view read; is = read_of Gives Configuration file read within gave; checked = checked }
 
 pub file_policy_check : {O : Type 0} (Gives : List ℕ → Result (List ℕ) NotRead → Type 0)
@@ -79,14 +88,23 @@ pub file_sent : {O : Type 0} (Gives : List ℕ → Result (List ℕ) NotRead →
 file_sent Gives Answers contents path file read writer writer' ended within gave sends =
     record { read = read_view read; is = read_of Gives Policy file.now read within gave; sends = sends }
 
-pub policy_sent : {O : Type 0} (Answers : List ℕ → List ℕ → Result (List ℕ) NoAnswer → Type 0)
-    (contents : O → Option (List ℕ)) (path file : Bor (List ℕ)) (text octets : List ℕ) (writer writer' : O)
-    (answered ended : Result (Unit {0}) Failure) → IsPolicyCommand text octets
-    → IsSent Answers contents path (policy file.now) octets writer writer' answered
+pub ended_otherwise : {O : Type 0} (contents : O → Option (List ℕ)) (path file : Bor (List ℕ))
+    (text : List ℕ) (answer : Result (List ℕ) NoAnswer) (writer writer' : O)
+    (answered ended : Result (Unit {0}) Failure)
+    → EndsBy contents path (policy file.now) answer writer writer' answered
     → IsPolicyEnd file text answered ended
+    → EndsOtherwise contents path file text answer writer writer' ended
+ended_otherwise contents path file text answer writer writer' answered ended by ends =
+    record { answered = answered; by = by; ends = ends }
+
+pub policy_sent : {O : Type 0} (Answers : List ℕ → List ℕ → Result (List ℕ) NoAnswer → Type 0)
+    (contents : O → Option (List ℕ)) (path file : Bor (List ℕ)) (text octets : List ℕ)
+    (answer : Result (List ℕ) NoAnswer) (writer writer' : O) (ended : Result (Unit {0}) Failure)
+    → IsPolicyCommand text octets → Answers path.now octets answer
+    → EndsPolicy contents path file text (heard false answer) writer writer' ended
     → SendsRead Answers contents path file (Ok text) writer writer' ended
-policy_sent Answers contents path file text octets writer writer' answered ended command sent ends =
-    inl (record { octets = octets; command = command; answered = answered; sent = sent; ends = ends })
+policy_sent Answers contents path file text octets answer writer writer' ended command gave ends =
+    inl (record { octets = octets; command = command; answer = answer; gave = gave; ends = ends })
 
 pub file_served : (Gives : List ℕ → Result (List ℕ) NotRead → Type 0) (objects : List ObjectState)
     (lasting : Lasting) (file : List ℕ) (read : Result (Vec ℕ Global) NotRead)

@@ -3,3 +3,4 @@ pub mod FrontLemmas
 pub mod OpeningLemmas
 pub mod ReadLemmas
 pub mod ReportingLemmas
+pub mod TakenLemmas

@@ -1,11 +1,14 @@
 -- What the program does to have a served agent do a command.
-use Rattle.std.specs.Prelude.{◌≡◌, ◌⊎◌, ℕ, Bool, true, false, codes, if◌then◌else◌, List, [], ◌∷◌, Option, Some, None, Result, Ok, Err, Vec}
+use Rattle.std.specs.Prelude.{◌≡◌, ◌⊎◌, ℕ, Bool, true, false, codes, bytes_eq, if◌then◌else◌, List, [], ◌∷◌, Option, Some, None, Result, Ok, Err, Vec}
 use Rattle.std.specs.Borrow.{Bor}
 use Rattle.std.specs.declared.alloc.Global.{Global}
 use Rattle.agent_words.specs.declared.asked.Order.{Order}
 use Rattle.agent_words.specs.declared.asked.Order.TheVariants.{Counts, Link, Policy}
 use Rattle.agent_words.specs.Orders.{Command, counts, link, policy}
-use Rattle.configuration.specs.PolicyFiles.{IsPartIn}
+use Rattle.community_core.specs.Communities.{PolicyTables}
+use Rattle.configuration.specs.declared.fault.ConfigurationFault.{ConfigurationFault}
+use Rattle.configuration.specs.PolicyFiles.{IsPartIn, IsPolicyIn, IsPolicyFaultIn}
+use Rattle.configuration.specs.Warnings.{policy_warnings}
 use Rattle.control_socket.specs.Sent.{link_octets, policy_octets}
 use Rattle.agent_program.specs.declared.files.FileLimit.TheVariants as limit
 use Rattle.agent_program.specs.declared.files.NotRead.{NotRead}
@@ -21,6 +24,7 @@ use Rattle.agent_program.specs.Answering.{undone_by}
 use Rattle.agent_program.specs.Files.{IsReadOf}
 use Rattle.agent_program.specs.Refusals.{IsPolicyRefusal}
 use Rattle.agent_program.specs.Reporting.{IsReported}
+use Rattle.agent_program.specs.Warned.{warned_text}
 
 -- why there is no command by a file: there was no memory for its octets, it cannot be read, or it has too
 -- many of them
@@ -92,6 +96,73 @@ abbrev pub IsPolicyEnd : Bor (List ℕ) → List ℕ → Result (Unit {0}) Failu
 IsPolicyEnd file text answered ended =
     IsPolicyEndBy (is_policy_refused answered) file text answered ended
 
+-- ---- a policy that the agent took
+
+-- the answer to a policy that was taken
+abbrev pub taken_answer : List ℕ
+taken_answer = codes "policy ok\n"
+
+-- whether an agent took a policy that it answered so
+abbrev pub is_taken : Result (List ℕ) NoAnswer → Bool
+is_taken (Err why) = false
+is_taken (Ok answer) = bytes_eq answer taken_answer
+
+-- the same, and behind it that there is no memory to find or write what is warned of
+abbrev pub unwarned_text : List ℕ
+unwarned_text =
+    codes "policy ok\nwarning: there was no memory to find what is warned of in the policy\n"
+
+-- what is printed where an agent took this policy: its answer, and behind it what is warned of in the policy,
+-- or that there was no memory for that
+abbrev pub IsTakenPolicyText : PolicyTables → List ℕ → Type 0
+IsTakenPolicyText tables printed =
+    (printed ≡ warned_text taken_answer (policy_warnings tables))
+    ⊎ (printed ≡ unwarned_text)
+
+-- The same by the octets of the policy's file. Where they are none for this program, as an agent of another
+-- version may take, nothing is warned of in them; and there may be no memory to read them.
+abbrev pub IsTakenText : List ℕ → List ℕ → Type 0
+IsTakenText text printed =
+    ((tables : PolicyTables) × IsPolicyIn text tables × IsTakenPolicyText tables printed)
+    ⊎ ((fault : ConfigurationFault) × IsPolicyFaultIn text fault × (printed ≡ taken_answer))
+    ⊎ (printed ≡ unwarned_text)
+
+module _ {O : Type 0} (contents : O → Option (List ℕ)) where
+  -- what is printed of a policy that was taken was, whole or until the output failed
+  pub record IsWarnedPrinted (tables : PolicyTables) (writer writer' : O) (ended : Result (Unit {0}) Failure)
+      : Type 0 where
+    pub printed : List ℕ
+    pub of : IsTakenPolicyText tables printed
+    pub reported : IsReported contents printed writer writer' ended
+
+  -- the same of the octets of its file
+  pub record IsTakenPrinted (text : List ℕ) (writer writer' : O) (ended : Result (Unit {0}) Failure)
+      : Type 0 where
+    pub printed : List ℕ
+    pub of : IsTakenText text printed
+    pub reported : IsReported contents printed writer writer' ended
+
+  -- there was no answer to a policy of these octets of a file, or another one; where it is refused, it is
+  -- with the reason that the octets have
+  pub record EndsOtherwise (path file : Bor (List ℕ)) (text : List ℕ) (answer : Result (List ℕ) NoAnswer)
+      (writer writer' : O) (ended : Result (Unit {0}) Failure) : Type 0 where
+    pub answered : Result (Unit {0}) Failure
+    pub by : EndsBy contents path (policy file.now) answer writer writer' answered
+    pub ends : IsPolicyEnd file text answered ended
+
+  -- how the program ends by what the agent of a path answers to a policy of these octets of a file
+  abbrev pub EndsPolicyBy : Bool → Bor (List ℕ) → Bor (List ℕ) → List ℕ → Result (List ℕ) NoAnswer → O → O
+      → Result (Unit {0}) Failure → Type 0
+  EndsPolicyBy true path file text answer writer writer' ended =
+      IsTakenPrinted text writer writer' ended
+  EndsPolicyBy false path file text answer writer writer' ended =
+      EndsOtherwise path file text answer writer writer' ended
+
+  abbrev pub EndsPolicy : Bor (List ℕ) → Bor (List ℕ) → List ℕ → Result (List ℕ) NoAnswer → O → O
+      → Result (Unit {0}) Failure → Type 0
+  EndsPolicy path file text answer writer writer' ended =
+      EndsPolicyBy (is_taken answer) path file text answer writer writer' ended
+
 -- Whether a command may be answered without octets: a link may, by which no port sends.
 abbrev pub may_be_empty : Command → Bool
 may_be_empty (link port up) = true
@@ -112,15 +183,14 @@ module _ {O : Type 0} (Answers : List ℕ → List ℕ → Result (List ℕ) NoA
   abbrev pub IsNotMade : O → O → Result (Unit {0}) Failure → Type 0
   IsNotMade writer writer' ended = (ended ≡ Err RunFailed) × (writer' ≡ writer)
 
-  -- the command for the policy of a file of these octets was sent, and where it was refused, it was for this
-  -- reason
+  -- the command for the policy of a file of these octets was sent, and the program ended by the answer to it
   pub record IsPolicySent (path file : Bor (List ℕ)) (text : List ℕ) (writer writer' : O)
       (ended : Result (Unit {0}) Failure) : Type 0 where
     pub octets : List ℕ
     pub command : IsPolicyCommand text octets
-    pub answered : Result (Unit {0}) Failure
-    pub sent : IsSent path (policy file.now) octets writer writer' answered
-    pub ends : IsPolicyEnd file text answered ended
+    pub answer : Result (List ℕ) NoAnswer
+    pub gave : Answers path.now octets answer
+    pub ends : EndsPolicy contents path file text (heard false answer) writer writer' ended
 
   -- the policy of this file by what was read of it
   abbrev pub SendsRead : Bor (List ℕ) → Bor (List ℕ) → Result (List ℕ) NotRead → O → O

@@ -11,7 +11,7 @@ use Rattle.agent_program.specs.declared.answering.NoAnswer.{NoAnswer}
 use Rattle.agent_program.specs.declared.failure.Failure.{Failure}
 use Rattle.agent_program.specs.declared.failure.Ended.{Ended}
 use Rattle.agent_words.specs.declared.asked.Asked.{Asked}
-use Rattle.agent_words.specs.declared.asked.Asked.TheVariants.{BuiltIn, Script, Check, CheckPolicy, Serve, Explain, ExplainPolicy, Tell}
+use Rattle.agent_words.specs.declared.asked.Asked.TheVariants.{BuiltIn, Script, Check, CheckPorts, CheckPolicy, Serve, Explain, ExplainPolicy, Tell}
 use Rattle.agent_words.specs.declared.asked.Lasting.{Lasting}
 use Rattle.agent_words.specs.Asking.{Inquiry, question_view}
 use Rattle.agent_words.specs.declared.asked.Order.{Order}
@@ -20,7 +20,7 @@ use Rattle.agent_program.specs.Endings.{status_of, stated_of, read_failure, IsLi
 use Rattle.agent_program.specs.Refusals.{EndsBy}
 use Rattle.agent_program.specs.Runs.{IsUntouched, IsRunBy}
 use Rattle.agent_program.specs.Services.{Service, OpensFile}
-use Rattle.agent_program.specs.Reporting.{IsCheckOf, IsPolicyCheckOf}
+use Rattle.agent_program.specs.Reporting.{IsCheckOf, IsPortsCheckOf, IsPolicyCheckOf}
 use Rattle.agent_program.specs.Commands.{SendsCommand}
 use Rattle.agent_program.specs.Explanations.{IsExplanation, IsPolicyExplanation}
 
@@ -81,7 +81,13 @@ module _ {I O : Type 0} (Gives : List ℕ → Result (List ℕ) NotRead → Type
     pub unread : reader' ≡ reader
     pub checked : IsCheckOf Gives contents file writer writer' ended
 
-  -- the same of a policy
+  -- the program reported the sockets of a file's configuration, and read nothing else
+  pub record ChecksPorts (file : List ℕ) (reader reader' : I) (writer writer' : O)
+      (ended : Result (Unit {0}) Failure) : Type 0 where
+    pub unread : reader' ≡ reader
+    pub checked : IsPortsCheckOf Gives contents file writer writer' ended
+
+  -- the program reported whether a file says a policy, and read nothing else
   pub record ChecksPolicy (file : List ℕ) (reader reader' : I) (writer writer' : O)
       (ended : Result (Unit {0}) Failure) : Type 0 where
     pub unread : reader' ≡ reader
@@ -125,6 +131,8 @@ module _ {I O : Type 0} (Gives : List ℕ → Result (List ℕ) NotRead → Type
       (RunsFile Gives objects remaining contents file.now reader reader' writer writer') done
   Does (Check file) reader reader' writer writer' done = HasDone
       (ChecksFile Gives objects remaining contents file.now reader reader' writer writer') done
+  Does (CheckPorts file) reader reader' writer writer' done = HasDone
+      (ChecksPorts Gives objects remaining contents file.now reader reader' writer writer') done
   Does (CheckPolicy file) reader reader' writer writer' done = HasDone
       (ChecksPolicy Gives objects remaining contents file.now reader reader' writer writer') done
   Does (Serve file lasting) reader reader' writer writer' done =

@@ -1,6 +1,7 @@
 -- What is written of a text, and what a check reports of octets.
-use Rattle.std.specs.Prelude.{◌≡◌, ◌≢◌, ◌⊎◌, ℕ, codes, List, [], ◌++◌, Option, Some, None, Result, Ok, Err}
+use Rattle.std.specs.Prelude.{◌≡◌, ◌≢◌, ◌⊎◌, ℕ, ◌+◌, codes, decimal, List, [], ◌∷◌, ◌++◌, Option, Some, None, Result, Ok, Err}
 use Rattle.std.specs.Io.KnownBytes.{Appends}
+use Rattle.std.specs.Net.Text.{socket_text}
 use Rattle.policy_text.specs.Texts.{HasContent}
 use Rattle.configuration.specs.declared.configuration.Configuration.{Configuration}
 use Rattle.configuration.specs.declared.fault.ConfigurationFault.{ConfigurationFault}
@@ -10,7 +11,9 @@ use Rattle.community_core.specs.Communities.{PolicyTables}
 use Rattle.configuration.specs.Details.{IsSentenceIn}
 use Rattle.configuration.specs.PolicyFiles.{IsPolicyIn, IsPolicyFaultIn, IsPolicySentenceIn}
 use Rattle.configuration.specs.Warnings.{policy_warnings, warnings_of}
-use Rattle.udp_agent.specs.Setups.{IsUnserved}
+use Rattle.udp_agent.specs.Setups.{IsSetup, IsUnserved}
+use Rattle.udp_agent.specs.declared.setup.PortSockets.{PortSockets}
+use Rattle.udp_agent.specs.declared.setup.Setup.{Setup}
 use Rattle.udp_agent.specs.declared.setup.Unserved.{Unserved}
 use Rattle.udp_agent.specs.declared.setup.Unserved.TheVariants.{NoServe, NoSockets}
 use Rattle.agent_program.specs.declared.files.FileLimit.TheVariants as limit
@@ -229,6 +232,96 @@ module _ {O : Type 0} (contents : O → Option (List ℕ)) where
   IsPolicyFileChecked (Err (FileTooLarge file limit)) writer writer' ended =
       (ended ≡ Err (TooLarge file limit)) × (writer' ≡ writer)
 
+-- ---- the sockets of a configuration
+
+-- a port as a line: its number, where its frames come in, and where they go out to
+abbrev pub port_line : ℕ → PortSockets → List ℕ
+port_line number port =
+    decimal number
+    ++ (codes " " ++ (socket_text port.listen ++ (codes " " ++ (socket_text port.peer ++ codes "\n"))))
+
+-- ports, the first of which has this number
+abbrev pub port_lines : ℕ → List PortSockets → List ℕ
+port_lines number [] = []
+port_lines number (port ∷ ports) = port_line number port ++ port_lines (number + 1) ports
+
+-- the socket of requests as a line
+abbrev pub requests_line : Setup → List ℕ
+requests_line setup = codes "snmp " ++ (socket_text setup.serve.snmp ++ codes "\n")
+
+-- What is stated of the sockets of a setup: that of requests, and behind it those of each port.
+abbrev pub sockets_text : Setup → List ℕ
+sockets_text setup = requests_line setup ++ port_lines 1 setup.ports.items
+
+-- how the program ends behind the text on what cannot be served: it is refused, unless the output failed
+abbrev pub refused_unserved : Result (Unit {0}) Failure → Failure
+refused_unserved (Ok done) = Refused
+refused_unserved (Err failure) = failure
+
+module _ {O : Type 0} (contents : O → Option (List ℕ)) where
+  -- The sockets of a setup were written, whole or until the output failed; or there was no memory for their
+  -- text, and nothing was written.
+  abbrev pub IsSocketsWritten : Setup → O → O → Result (Unit {0}) Failure → Type 0
+  IsSocketsWritten setup writer writer' ended =
+      IsReported contents (sockets_text setup) writer writer' ended
+      ⊎ ((ended ≡ Err RunFailed) × (writer' ≡ writer))
+
+  -- why something cannot be served was written, as a check states it, whole or until the output failed
+  pub record IsUnservedWritten (why : Unserved) (writer writer' : O) (failure : Failure) : Type 0 where
+    pub printed : Result (Unit {0}) Failure
+    pub reported : IsReported contents (ok_text (Some why)) writer writer' printed
+    pub is : failure ≡ refused_unserved printed
+
+  -- a configuration can be served, and its sockets are reported
+  pub record HasSocketsReported (configuration : Configuration) (writer writer' : O)
+      (ended : Result (Unit {0}) Failure) : Type 0 where
+    pub setup : Setup
+    pub is : IsSetup configuration.address configuration.ports.items configuration.serve setup
+    pub reported : IsSocketsWritten setup writer writer' ended
+
+  -- a configuration cannot be served, and that is reported
+  pub record LacksSocketsReported (configuration : Configuration) (writer writer' : O)
+      (ended : Result (Unit {0}) Failure) : Type 0 where
+    pub why : Unserved
+    pub unserved : IsUnserved configuration.ports.items configuration.serve (Some why)
+    pub failure : Failure
+    pub reported : IsUnservedWritten why writer writer' failure
+    pub is : ended ≡ Err failure
+
+  abbrev pub IsSocketsReported : Configuration → O → O → Result (Unit {0}) Failure → Type 0
+  IsSocketsReported configuration writer writer' ended =
+      HasSocketsReported configuration writer writer' ended
+      ⊎ LacksSocketsReported configuration writer writer' ended
+
+  -- the octets are a configuration, and its sockets are reported, or that it has none
+  pub record IsPortsReported (octets : List ℕ) (writer writer' : O) (ended : Result (Unit {0}) Failure)
+      : Type 0 where
+    pub configuration : Configuration
+    pub stated : IsConfigurationIn octets configuration
+    pub reported : IsSocketsReported configuration writer writer' ended
+
+  -- the octets are no configuration, and that is reported, as by a check
+  pub record IsNoPortsReported (octets : List ℕ) (writer writer' : O) (ended : Result (Unit {0}) Failure)
+      : Type 0 where
+    pub failure : Failure
+    pub reported : IsRefusalReported contents octets writer writer' failure
+    pub is : ended ≡ Err failure
+
+  -- What a check of octets for their sockets amounts to.
+  abbrev pub IsPortsChecked : List ℕ → O → O → Result (Unit {0}) Failure → Type 0
+  IsPortsChecked octets writer writer' ended =
+      IsPortsReported octets writer writer' ended ⊎ IsNoPortsReported octets writer writer' ended
+
+  -- What such a check of what was read of a file amounts to.
+  abbrev pub IsPortsFileChecked : Result (List ℕ) NotRead → O → O → Result (Unit {0}) Failure → Type 0
+  IsPortsFileChecked (Ok octets) writer writer' ended = IsPortsChecked octets writer writer' ended
+  IsPortsFileChecked (Err (FileMemory file)) writer writer' ended =
+      IsWantReported contents writer writer' ended
+  IsPortsFileChecked (Err (Unreadable file reason)) writer writer' ended =
+      (ended ≡ Err (CannotRead file reason)) × (writer' ≡ writer)
+  IsPortsFileChecked (Err (FileTooLarge file limit)) writer writer' ended =
+      (ended ≡ Err (TooLarge file limit)) × (writer' ≡ writer)
+
 -- A reader of files, by what a read of the file of a name may give, and a writer.
 module _ {O : Type 0} (Gives : List ℕ → Result (List ℕ) NotRead → Type 0)
     (contents : O → Option (List ℕ)) where
@@ -238,6 +331,13 @@ module _ {O : Type 0} (Gives : List ℕ → Result (List ℕ) NotRead → Type 0
     pub read : Result (List ℕ) NotRead
     pub is : IsReadOf Gives limit.Configuration file read
     pub checked : IsFileChecked contents read writer writer' ended
+
+  -- a file was read, or not, and the sockets of what was read of it were reported
+  pub record IsPortsCheckOf (file : List ℕ) (writer writer' : O) (ended : Result (Unit {0}) Failure)
+      : Type 0 where
+    pub read : Result (List ℕ) NotRead
+    pub is : IsReadOf Gives limit.Configuration file read
+    pub checked : IsPortsFileChecked contents read writer writer' ended
 
   -- a file was read, or not, and it was reported whether what was read of it says a policy
   pub record IsPolicyCheckOf (file : List ℕ) (writer writer' : O) (ended : Result (Unit {0}) Failure)

@@ -21,8 +21,8 @@ const NO_SERVE_TEXT: &[u8] = b"configuration ok for script, not for serve: no [s
 const NO_SOCKETS_TEXT: &[u8] =
     b"configuration ok for script, not for serve: a port without listen or peer\n";
 
-// What is stated of a configuration that cannot be served for this reason, or can be.
-fn ok_text(why: Option<Unserved>) -> &'static [u8]
+/// What is stated of a configuration that cannot be served for this reason, or can be.
+pub(crate) fn ok_text(why: Option<Unserved>) -> &'static [u8]
     ensures { result.now ≡ ok_text why }
 {
     match why {
@@ -41,8 +41,8 @@ fn fault_text(alloc: Global, octets: &[u8], fault: ConfigurationFault) -> Result
     Ok(text)
 }
 
-// Reports a fault of octets, and gives the failure that comes of it.
-fn report_fault<'a, O: Write>(
+/// Reports a fault of octets, and gives the failure that comes of it.
+pub(crate) fn report_fault<'a, O: Write>(
     alloc: Global,
     octets: &[u8],
     fault: ConfigurationFault,

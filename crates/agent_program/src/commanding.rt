@@ -4,11 +4,12 @@ ghost use Rattle.control_socket.specs.Sent.{link_octets, policy_octets};
 ghost use Rattle.agent_words.specs.Orders.{order_view};
 ghost use Rattle.agent_program.specs.Files.{read_view};
 ghost use Rattle.agent_program.specs.declared.answering.NoAnswer.{NoAnswer};
-ghost use Rattle.agent_program.specs.Commands.{policy_failure, heard, answer_view, may_be_empty, IsPrinted, EndsBy, IsSent, IsPolicyCommand, is_policy_refused, IsPolicyEnd, SendsRead, SendsFile, SendsCommand};
+ghost use Rattle.agent_program.specs.Commands.{policy_failure, heard, answer_view, may_be_empty, IsPrinted, EndsBy, IsSent, IsPolicyCommand, is_policy_refused, IsPolicyEnd, EndsOtherwise, EndsPolicy, SendsRead, SendsFile, SendsCommand};
 
 use crate::answering::{NoAnswer, Undone, undone_by};
 use crate::failure::{Failure, policy_refusal, write_out};
 use crate::files::{FileLimit, NotRead, ReadFile, SystemFiles};
+use crate::taken::{is_taken, print_taken};
 use agent_words::Order;
 use configuration::policy_part_in;
 use control_socket::{COUNTS, ask_agent, link_command, policy_command};
@@ -155,6 +156,43 @@ fn end_by_policy<'a>(
     }
 }
 
+// Prints an answer to a policy of these octets of a file by which it was not taken, if there is one.
+#[tactic(auto, using(crate::proofs::FileLemmas::ended_otherwise))]
+fn end_otherwise<'a, O: Write>(
+    alloc: Global,
+    path: &'a str,
+    file: &'a str,
+    text: &[u8],
+    answer: Result<Vec<u8>, NoAnswer>,
+    writer: &mut O,
+) -> Result<(), Failure<'a>>
+    ensures { EndsOtherwise O.contents path.entry file.entry text.now (answer_view answer)
+        writer.old writer.new result }
+{
+    let answered = end_by(path, Order::Policy(file), answer, writer);
+    end_by_policy(alloc, file, text, answered)
+}
+
+// Prints what the agent of a path answers to a policy of these octets of a file, if it answers; where it took
+// the policy, with what is warned of in it.
+fn end_policy<'a, O: Write>(
+    alloc: Global,
+    path: &'a str,
+    file: &'a str,
+    text: &[u8],
+    answer: Result<Vec<u8>, NoAnswer>,
+    writer: &mut O,
+) -> Result<(), Failure<'a>>
+    ensures { EndsPolicy O.contents path.entry file.entry text.now (answer_view answer)
+        writer.old writer.new result }
+{
+    if is_taken(&answer) {
+        print_taken(alloc, text, writer)
+    } else {
+        end_otherwise(alloc, path, file, text, answer, writer)
+    }
+}
+
 // Sends the policy of a file of these octets.
 #[tactic(auto, using(crate::proofs::FileLemmas::policy_sent))]
 fn send_policy<'a, F: AskAgent, O: Write>(
@@ -170,8 +208,8 @@ fn send_policy<'a, F: AskAgent, O: Write>(
 {
     match policy_command_of(alloc, text) {
         Ok(octets) => {
-            let answered = send(alloc, agents, path, Order::Policy(file), &octets, writer);
-            end_by_policy(alloc, file, text, answered)
+            let answer = agents.ask(alloc, path, &octets);
+            end_policy(alloc, path, file, text, heard(false, answer), writer)
         }
         Err(_) => Err(Failure::Run),
     }
@@ -212,7 +250,8 @@ fn send_file<'a, F: ReadFile + AskAgent, O: Write>(
 }
 
 /// Sends a command to the agent whose control socket has this path, and prints its answer. The file of a policy
-/// may be that of a whole configuration, whose policy is sent.
+/// may be that of a whole configuration, whose policy is sent. Where the agent took a policy, a line for each of
+/// its warnings stands behind the answer, or one that there was no memory for them.
 ///
 /// # Errors
 /// `CannotRead` where the file of a policy cannot be read, `TooLarge` where it has more octets than a

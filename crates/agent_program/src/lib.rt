@@ -11,7 +11,8 @@
 //! script over objects by the octets of a configuration, and refuses octets that say none, or objects
 //! that make no registry, before it reads or writes; [`NotRun`] says why there was no run to the end.
 //! [`check_octets`] reports whether octets are one, [`check_read`] whether what was read of a file is;
-//! [`check_policy`] and [`check_policy_read`] the same of a policy.
+//! [`check_policy`] and [`check_policy_read`] the same of a policy, [`check_ports`] and
+//! [`check_ports_read`] report the sockets of a configuration.
 //! [`warned_text`] is a line and behind it the warnings of a configuration, [`log_warnings`] logs them.
 //! [`open_service`] gives what octets say is to be served, [`serve_opened`] serves it for its rounds,
 //! and [`serve_opened_forever`] without an end. [`collect_words`] has the words of a command line as
@@ -25,7 +26,7 @@
 //! `specs/Endings.antt`: statuses, and the lines of each failure;
 //! `specs/Refusals.antt`: why octets were not run or served, as a failure;
 //! `specs/Reporting.antt`: what a check reports; `specs/Warned.antt`: what is written of warnings; `specs/Explanations.antt`: what is written of the decision on
-//! a request; `specs/Commands.antt`: what is done to have a served agent do a command;
+//! a request; `specs/Commands.antt`: what is done to have a served agent do a command, and what is printed of its answer;
 //! `specs/Programs.antt`: what the program does for what is asked. What words ask for
 //! stands in `agent_words`.
 //!
@@ -41,6 +42,7 @@
 mod answering;
 mod checking;
 mod checking_policies;
+mod checking_ports;
 mod collecting;
 mod commanding;
 mod explaining;
@@ -52,11 +54,13 @@ mod reporting;
 mod run;
 mod running;
 mod serving;
+mod taken;
 mod warned;
 
 pub use answering::{NoAnswer, Undone};
 pub use checking::{check_octets, check_read};
 pub use checking_policies::{check_policy, check_policy_read};
+pub use checking_ports::{check_ports, check_ports_read};
 pub use collecting::collect_words;
 pub use commanding::AskAgent;
 pub use failure::{Ended, Failure, Refusal, end_answered, report};

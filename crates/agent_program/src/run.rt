@@ -2,12 +2,13 @@
 ghost use Rattle.std.specs.Prelude.{◌≡◌, map, option_map};
 ghost use Rattle.agent_program.specs.Refusals.{EndsBy};
 ghost use Rattle.agent_program.specs.Files.{read_view};
-ghost use Rattle.agent_program.specs.Reporting.{IsCheckOf, IsPolicyCheckOf};
+ghost use Rattle.agent_program.specs.Reporting.{IsCheckOf, IsPortsCheckOf, IsPolicyCheckOf};
 ghost use Rattle.agent_program.specs.Services.{OpensRead, OpensFile};
 ghost use Rattle.agent_program.specs.Programs.{RunsBy, RunsRead, RunsFile, Does, IsProgramRun, nothing_left};
 
 use crate::checking::check_read;
 use crate::checking_policies::check_policy_read;
+use crate::checking_ports::check_ports_read;
 use crate::commanding::{AskAgent, send_order};
 use crate::explaining::explain_file;
 use crate::explaining_policies::explain_policy_file;
@@ -88,6 +89,7 @@ where
         }
         Asked::Script(file) => finish(run_file(alloc, files, objects, file, reader, writer)),
         Asked::Check(file) => finish(check_file(alloc, files, file, writer)),
+        Asked::CheckPorts(file) => finish(check_ports_file(alloc, files, file, writer)),
         Asked::CheckPolicy(file) => finish(check_policy_file(alloc, files, file, writer)),
         Asked::Serve(file, lasting) => serve_file(alloc, files, objects, file, lasting),
         Asked::Explain(file, question) => {
@@ -222,6 +224,23 @@ where
 {
     let read = files.read_file(file, FileLimit::Configuration);
     check_read(alloc, read, writer)
+}
+
+// Reports the sockets of a file's configuration.
+#[tactic(auto, using(crate::proofs::FileLemmas::file_ports_check))]
+fn check_ports_file<'a, F, O>(
+    alloc: Global,
+    files: &F,
+    file: &'a str,
+    writer: &mut O,
+) -> Result<(), Failure<'a>>
+where
+    F: ReadFile,
+    O: Write,
+    ensures { IsPortsCheckOf (F.gives files.now) O.contents file.now writer.old writer.new result }
+{
+    let read = files.read_file(file, FileLimit::Configuration);
+    check_ports_read(alloc, read, writer)
 }
 
 // Reports whether a file says a policy.

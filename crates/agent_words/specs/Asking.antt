@@ -6,7 +6,7 @@ use Rattle.clap.specs.declared.parser.matches.ArgMatches.{ArgMatches}
 use Rattle.agent_words.specs.Options.{agent_app}
 use Rattle.agent_words.specs.declared.asked.Asked.{Asked}
 use Rattle.agent_words.specs.Orders.{Command, order_of, order_view}
-use Rattle.agent_words.specs.declared.asked.Asked.TheVariants.{BuiltIn, Script, Check, CheckPolicy, Serve, Explain, ExplainPolicy, Tell}
+use Rattle.agent_words.specs.declared.asked.Asked.TheVariants.{BuiltIn, Script, Check, CheckPorts, CheckPolicy, Serve, Explain, ExplainPolicy, Tell}
 use Rattle.agent_words.specs.declared.asked.Lasting.{Lasting}
 use Rattle.agent_words.specs.declared.asked.Lasting.TheVariants.{Rounds, Forever}
 use Rattle.agent_words.specs.declared.asked.Operation.{Operation}
@@ -34,6 +34,8 @@ pub data Asking : Type 0 where
   script : (file : List ℕ) → Asking
   -- whether this file is a configuration
   check : (file : List ℕ) → Asking
+  -- the sockets of the configuration of this file
+  check_ports : (file : List ℕ) → Asking
   -- whether this file is a policy, or a configuration with one
   check_policy : (file : List ℕ) → Asking
   -- the agent by the configuration of this file, over UDP, for so long
@@ -95,12 +97,15 @@ abbrev pub lasting_in : List Row → Option Term
 lasting_in rows = lasting_by (is_set (one_of (codes "forever") rows))
     (is_set (one_of (codes "audit") rows)) (first_of (codes "PATH") rows)
 
--- a check of the file of a configuration or of that of a policy, where one of them is given, and not both
-abbrev pub check_by : Option Text → Option Text → Option Asking
-check_by (Some file) None = Some (check file)
-check_by None (Some file) = Some (check_policy file)
-check_by (Some file) (Some policy) = None
-check_by None None = None
+-- a check of the file of a configuration or of that of a policy, where one of them is given, and not both; by
+-- whether `--ports` is given, which asks for the sockets of a configuration alone
+abbrev pub check_by : Bool → Option Text → Option Text → Option Asking
+check_by false (Some file) None = Some (check file)
+check_by true (Some file) None = Some (check_ports file)
+check_by false None (Some file) = Some (check_policy file)
+check_by true None (Some file) = None
+check_by ports (Some file) (Some policy) = None
+check_by ports None None = None
 
 -- the same of an explanation of this request
 abbrev pub explain_by : Option Text → Option Text → Inquiry → Option Asking
@@ -142,7 +147,7 @@ tell_by rows = tell_with (first_of (codes "PATH") rows)
 abbrev pub asking_by : Text → List Row → Option Asking
 asking_by name rows =
     if bytes_eq name (codes "tell") then tell_by rows
-    else if bytes_eq name (codes "check") then check_by (config_in rows) (policy_in rows)
+    else if bytes_eq name (codes "check") then check_by (is_set (one_of (codes "ports") rows)) (config_in rows) (policy_in rows)
     else if bytes_eq name (codes "explain") then
     option_and_then (explain_by (config_in rows) (policy_in rows)) (inquiry_by rows)
     else file_asking_by name rows
@@ -168,6 +173,7 @@ abbrev pub asked_view : Asked → Asking
 asked_view BuiltIn = built_in
 asked_view (Script file) = script file.now
 asked_view (Check file) = check file.now
+asked_view (CheckPorts file) = check_ports file.now
 asked_view (CheckPolicy file) = check_policy file.now
 asked_view (Serve file lasting) = serve file.now (lasting_view lasting)
 asked_view (Explain file question) = explain file.now (question_view question)
@@ -185,6 +191,7 @@ is_serving (Serve file lasting) = true
 is_serving BuiltIn = false
 is_serving (Script file) = false
 is_serving (Check file) = false
+is_serving (CheckPorts file) = false
 is_serving (CheckPolicy file) = false
 is_serving (Explain file question) = false
 is_serving (ExplainPolicy file question) = false

@@ -53,6 +53,10 @@ forever_flag = flag_rule (codes "forever")
 abbrev pub audit_flag : Rule
 audit_flag = flag_rule (codes "audit")
 
+-- `--ports`
+abbrev pub ports_flag : Rule
+ports_flag = flag_rule (codes "ports")
+
 -- one word that has to stand
 abbrev pub one_word : Text → Rule
 one_word id = record (new_rule id) { required = true }
@@ -71,6 +75,10 @@ file_shape name = record (new_shape name) { rules = config_option ∷ [] }
 abbrev pub either_shape : Text → Shape
 either_shape name =
     record (new_shape name) { rules = config_choice ∷ (policy_option ∷ []) }
+
+-- such a file, and whether its ports' sockets are asked for alone
+abbrev pub check_shape : Shape
+check_shape = record (new_shape (codes "check")) { rules = config_choice ∷ (policy_option ∷ (ports_flag ∷ [])) }
 
 abbrev pub serve_shape : Shape
 serve_shape = record (new_shape (codes "serve")) { rules = config_option ∷ (forever_flag ∷ (audit_flag ∷ (control_option ∷ []))) }
@@ -95,7 +103,7 @@ agent_shape = record (new_shape (codes "agentd")) { has_version = true }
 abbrev pub agent_app : App
 agent_app = record {
   top = record agent_shape { is_leaf = false };
-  subs = file_shape (codes "script") ∷ (either_shape (codes "check") ∷ (serve_shape ∷ (explain_shape ∷ (tell_shape ∷ []))));
+  subs = file_shape (codes "script") ∷ (check_shape ∷ (serve_shape ∷ (explain_shape ∷ (tell_shape ∷ []))));
 }
 
 -- one subcommand by itself
@@ -105,7 +113,7 @@ alone shape = record { top = shape; subs = [] }
 -- the words that the usage shows under a mistake in those of a subcommand: its own
 abbrev pub usage_app : Text → App
 usage_app name =
-    if bytes_eq name (codes "check") then alone (either_shape (codes "check"))
+    if bytes_eq name (codes "check") then alone check_shape
     else if bytes_eq name (codes "serve") then alone serve_shape
     else if bytes_eq name (codes "explain") then alone explain_shape
     else if bytes_eq name (codes "tell") then alone tell_shape

@@ -11,6 +11,8 @@ pub enum Asked<'a> {
     Script(&'a str),
     /// Whether this file is a configuration.
     Check(&'a str),
+    /// The sockets of the configuration of this file.
+    CheckPorts(&'a str),
     /// Whether this file is a policy, or a configuration with one.
     CheckPolicy(&'a str),
     /// The agent by the configuration of this file, over UDP, for so long.

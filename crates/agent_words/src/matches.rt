@@ -53,15 +53,19 @@ fn asked_of_file<'a>(name: &str, entered: &ArgMatches<'a>) -> Option<Asked<'a>>
     }
 }
 
-// A check of the file of a configuration or of a policy, if the words name one of them.
+// A check of the file of a configuration or of a policy, if the words name one of them; of a configuration with
+// `--ports` its sockets.
 fn check_in<'a>(entered: &ArgMatches<'a>) -> Option<Asked<'a>>
-    ensures { option_map asked_view result ≡ check_by (config_in (rows_in entered.now))
-        (policy_in (rows_in entered.now)) }
+    ensures { option_map asked_view result ≡ check_by (is_set (one_of (codes "ports") (rows_in entered.now)))
+        (config_in (rows_in entered.now)) (policy_in (rows_in entered.now)) }
 {
-    match (word_in(entered, "FILE"), word_in(entered, "POLICYFILE")) {
-        (Some(file), None) => Some(Asked::Check(file)),
-        (None, Some(file)) => Some(Asked::CheckPolicy(file)),
-        (Some(_), Some(_)) | (None, None) => None,
+    let ports = is_given(entered, "ports");
+    let (file, policy) = (word_in(entered, "FILE"), word_in(entered, "POLICYFILE"));
+    match (ports, file, policy) {
+        (false, Some(file), None) => Some(Asked::Check(file)),
+        (true, Some(file), None) => Some(Asked::CheckPorts(file)),
+        (false, None, Some(file)) => Some(Asked::CheckPolicy(file)),
+        (true, None, Some(_)) | (_, Some(_), Some(_)) | (_, None, None) => None,
     }
 }
 

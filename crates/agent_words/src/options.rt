@@ -1,7 +1,7 @@
 //! The words of `agentd`, and what its help says of them.
 ghost use Rattle.std.specs.Prelude.{[], codes, IfOk, IsOkAnd};
 ghost use Rattle.clap.specs.Words.{AddsArg, AddsSubcommand};
-ghost use Rattle.agent_words.specs.Options.{config_option, config_choice, policy_option, control_option, control_needed, flag_rule, one_word, some_words, file_shape, either_shape, serve_shape, explain_shape, tell_shape, agent_shape, agent_app, usage_app};
+ghost use Rattle.agent_words.specs.Options.{config_option, config_choice, policy_option, control_option, control_needed, flag_rule, one_word, some_words, file_shape, either_shape, check_shape, serve_shape, explain_shape, tell_shape, agent_shape, agent_app, usage_app};
 ghost use Rattle.agent_words.specs.Built.{IsArgument, IsCalled, HasWords};
 
 use clap::builder::ValueParser;
@@ -67,7 +67,16 @@ const CHECK_HELP: &str =
     "With --policy it says whether POLICYFILE may be given to a served agent: whether it is a policy alone, or a
 configuration with one.
 
-Exit status: 0 if it is one, 2 if not, 1 if that cannot be printed.";
+With --ports it prints the sockets of FILE alone, for other programs: snmp and the socket of requests, and
+for each port a line of its number, where its frames come in, and where they go out to, as
+1 127.0.0.1:16001 127.0.0.1:16101. FILE has to have the table serve, and listen and peer of each port.
+
+Exit status: 0 if it is one, and with --ports can be served; 2 if not; 1 if that cannot be printed.
+
+Examples:
+  agentd check --config agentd.toml
+  agentd check --ports --config agentd.toml
+  agentd check --policy policy.toml";
 
 /// How the text of a decision reads.
 const EXPLAIN_HELP: &str =
@@ -98,7 +107,8 @@ const TELL_HELP: &str = "COMMAND is one of:
   policy POLICYFILE   the TOML in POLICYFILE is the policy from there on: policy ok, or policy refused
   counts              how many datagrams and requests were dropped, by cause
 
-The agent runs with 'agentd serve --forever --control PATH'. What it answers is printed.
+The agent runs with 'agentd serve --forever --control PATH'. What it answers is printed, and behind
+policy ok a line for each row of the policy that cannot work or is seldom meant.
 POLICYFILE is a policy alone, or a configuration, whose policy is sent. Behind a refusal, and where no
 answer comes, standard error has the reason.
 
@@ -188,16 +198,22 @@ fn script_command<'a>(alloc: Global) -> Result<Command<'a>, AllocError>
     )
 }
 
-// `check`: whether a file is a configuration, or a policy.
+// `check`: whether a file is a configuration, or a policy, or the sockets of one.
 fn check_command<'a>(alloc: Global) -> Result<Command<'a>, AllocError>
-    ensures { IfOk result (HasWords (record { top = either_shape (codes "check"); subs = [] })) }
+    ensures { IfOk result (HasWords (record { top = check_shape; subs = [] })) }
 {
-    either_command(
+    let check = either_command(
         alloc,
         "check",
         "Says whether FILE is a configuration, and if not, what would be right",
         CHECK_HELP,
-    )
+    );
+    let ports = flag(
+        alloc,
+        "ports",
+        "Print the sockets of FILE alone; not with --policy",
+    );
+    with_argument(check, ports)
 }
 
 // `serve`: an agent by a file, for its rounds or without an end, and then with or without audits.

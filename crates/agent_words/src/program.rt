@@ -93,10 +93,19 @@ fn asked_of_matches<'a>(alloc: Global, matches: &ArgMatches<'a>) -> Result<Asked
 // What is wrong with matches that ask for nothing, though clap lets them pass.
 fn mistake_in(matches: &ArgMatches<'_>) -> &'static str {
     match matches.subcommand() {
-        Some(("check" | "explain", entered)) => file_mistake(entered),
+        Some(("check", entered)) => check_mistake(entered),
+        Some(("explain", entered)) => file_mistake(entered),
         Some(("tell", _)) => "a command is link P up, link P down, counts or policy POLICYFILE",
         Some((_, entered)) if !is_given(entered, "audit") => "--control wants --forever",
         _ => "--audit wants --forever",
+    }
+}
+
+// What is wrong with those of a check: the files, else that sockets of a policy are asked for.
+fn check_mistake(entered: &ArgMatches<'_>) -> &'static str {
+    match (word_in(entered, "FILE"), word_in(entered, "POLICYFILE")) {
+        (None, Some(_)) => "--ports and --policy do not stand together",
+        _ => file_mistake(entered),
     }
 }
 
