@@ -108,7 +108,7 @@ def end(process):
 
 
 def lacking():
-    """Why what needs namespaces and tools/feeder cannot be tried here, or nothing."""
+    """Why what needs namespaces and the feeder's test cannot be tried here, or nothing."""
     if sys.version_info < (3, 11):
         return "python3 is older than 3.11"
     if os.geteuid():

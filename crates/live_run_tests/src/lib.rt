@@ -5,7 +5,8 @@
 //!   threads that go on interval by interval;
 //! - the text of an audit that names all settings which may be unrestored; audit lines that are offered to a queue
 //!   and written;
-//! - the thread of an operator's commands.
+//! - the thread of an operator's commands;
+//! - counts that threads add to while another takes or reads them.
 //!
 //! # Entry points
 //! None: the tests call what `wire_core`, `control_socket`, `history_core`, `audit_core` and the crates `live_..`
@@ -51,5 +52,7 @@ mod rows;
 mod startups;
 #[cfg(test)]
 mod support;
+#[cfg(test)]
+mod tallies;
 #[cfg(test)]
 mod wires;
