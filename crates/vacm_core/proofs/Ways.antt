@@ -1,7 +1,7 @@
 -- Where a way leads at a fork of the tree.
-use Rattle.std.proofs.Common.{◌≡◌, ◌≢◌, ℕ, ◌<◌, ◌≤◌, ◌-◌, ◌==◌, Bool, true, false, not, ◌&&◌, ◌||◌, cond, List, [], ◌∷◌, length, get_or, take, drop, Option, Some, None, Box, refl, sym, ap, subst, ◌∙◌, arith, ◌⊎◌, inl, inr, ltb, eq-eqb}
+use Rattle.std.proofs.Common.{◌≡◌, ◌≢◌, ℕ, ◌≤◌, ◌-◌, ◌==◌, Bool, true, false, not, ◌&&◌, ◌||◌, cond, List, [], ◌∷◌, length, get_or, take, drop, Option, Some, None, Box, refl, sym, ap, subst, ◌∙◌, arith, ◌⊎◌, inl, inr, ltb, eq-eqb}
 use Rattle.std.specs.declared.alloc.Global.{Global}
-use Rattle.std.proofs.lemmas.Bool.{cases_Bool, both_ways, eqb-true, le-ltb, lt-ltb, ltb-false}
+use Rattle.std.proofs.lemmas.Bool.{cases_Bool, both_ways, eqb-true, le-ltb, ltb-false}
 use Rattle.std.proofs.lemmas.Option.{same_Some, none-some}
 use Rattle.std.proofs.Math.Seq.{take-length}
 use Rattle.vacm_core.specs.declared.tree.Step.{Step}
@@ -9,7 +9,7 @@ use Rattle.vacm_core.specs.declared.radix.Radix.{Radix}
 use Rattle.vacm_core.specs.declared.radix.Radix.TheVariants.{Empty as None_of, Fork, Segment as RunOf}
 use Rattle.vacm_core.specs.declared.radix.Branch.{Branch}
 use Rattle.vacm_core.specs.declared.radix.Segment.{Segment}
-use Rattle.vacm_core.specs.Trees.{is_row, ends_or, runs, after_run, reaches, fits, IsLater}
+use Rattle.vacm_core.specs.Trees.{is_row, ends_or, runs, after_run, reaches, reaches_fork, fits}
 use Rattle.vacm_core.proofs.Agrees.{and_true, part_found}
 
 -- a way that leads on to a row, and that the rest of a name fits
@@ -39,7 +39,7 @@ loose_or true counts e f = absurd cc
 loose_or false counts e f = e
 
 straight : (node : Branch) (s : Step) (rest : List Step) (x : ℕ) (name : List ℕ) (n : ℕ)
-    → ((node.loose || s.counts) && (cond (ltb s.part node.part) (reaches node.less (s ∷ rest) n) (cond (ltb node.part s.part) (reaches node.greater (s ∷ rest) n) ((node.loose_equal || s.counts) && ends_or node.row (reaches node.equal rest n) rest n)))) ≡ true
+    → reaches_fork node (s ∷ rest) n ≡ true
     → ((not s.counts || s.part == x) && fits rest name) ≡ true → node.loose ≡ false → x ≡ node.part → EndsOr node name n
 straight node s rest x name n e f tight same =
     let parts = and_true (node.loose || s.counts) _ e in
@@ -51,7 +51,7 @@ straight node s rest x name n e f tight same =
     ends node rest name n on.1 fit.1
 
 turn : (node : Branch) (s : Step) (rest : List Step) (x : ℕ) (name : List ℕ) (n : ℕ)
-    → ((node.loose || s.counts) && (cond (ltb s.part node.part) (reaches node.less (s ∷ rest) n) (cond (ltb node.part s.part) (reaches node.greater (s ∷ rest) n) ((node.loose_equal || s.counts) && ends_or node.row (reaches node.equal rest n) rest n)))) ≡ true
+    → reaches_fork node (s ∷ rest) n ≡ true
     → ((not s.counts || s.part == x) && fits rest name) ≡ true → Turns node (s ∷ rest) name n
 turn node s rest x name n e f =
     let parts = and_true (node.loose || s.counts) _ e in
@@ -72,21 +72,26 @@ after_is x name =
     let e : length (x ∷ name) - 1 ≡ length name = omega arith in
     sym (take-length name) ∙ ap (λ (k : ℕ). take k name) (sym e)
 
+-- what reaches a fork of the tree leads from there
+pub at_fork : (t : Radix) (b : Box Branch Global) → t ≡ Fork b → (way : List Step) (n : ℕ) → reaches t way n ≡ true → reaches_fork b.value way n ≡ true
+at_fork t b is [] n e = rw is at e
+at_fork t b is (s ∷ rest) n e = rw is at e
+
 -- a fork without a mark, of which the name has the number
-pub goes_straight : (t : Radix) (b : Box Branch Global) → t ≡ Fork b → (way : List Step) (name : List ℕ) (n : ℕ) → reaches t way n ≡ true → fits way name ≡ true
-    → 1 ≤ length name → b.value.loose ≡ false → get_or name 0 0 ≡ b.value.part → EndsOr b.value (after_first name) n
-goes_straight t b is way [] n e f some tight same = absurd (omega arith)
-goes_straight t b is [] (x ∷ name) n e f some tight same = absurd (both_ways false refl (rw is at e))
-goes_straight t b is (s ∷ rest) (x ∷ name) n e f some tight same =
-    subst (λ (l : List ℕ). EndsOr b.value l n) (after_is x name) (straight b.value s rest x name n (rw is at e) f tight same)
+pub goes_straight : (node : Branch) (way : List Step) (name : List ℕ) (n : ℕ) → reaches_fork node way n ≡ true → fits way name ≡ true
+    → 1 ≤ length name → node.loose ≡ false → get_or name 0 0 ≡ node.part → EndsOr node (after_first name) n
+goes_straight node way [] n e f some tight same = absurd (omega arith)
+goes_straight node [] (x ∷ name) n e f some tight same = absurd (both_ways false refl e)
+goes_straight node (s ∷ rest) (x ∷ name) n e f some tight same =
+    subst (λ (l : List ℕ). EndsOr node l n) (after_is x name) (straight node s rest x name n e f tight same)
 
 -- any fork
-pub turns : (t : Radix) (b : Box Branch Global) → t ≡ Fork b → (way : List Step) (name : List ℕ) (n : ℕ) → reaches t way n ≡ true → fits way name ≡ true
-    → 1 ≤ length name → Turns b.value way (after_first name) n
-turns t b is way [] n e f some = absurd (omega arith)
-turns t b is [] (x ∷ name) n e f some = absurd (both_ways false refl (rw is at e))
-turns t b is (s ∷ rest) (x ∷ name) n e f some =
-    subst (λ (l : List ℕ). Turns b.value (s ∷ rest) l n) (after_is x name) (turn b.value s rest x name n (rw is at e) f)
+pub turns : (node : Branch) (way : List Step) (name : List ℕ) (n : ℕ) → reaches_fork node way n ≡ true → fits way name ≡ true
+    → 1 ≤ length name → Turns node way (after_first name) n
+turns node way [] n e f some = absurd (omega arith)
+turns node [] (x ∷ name) n e f some = absurd (both_ways false refl e)
+turns node (s ∷ rest) (x ∷ name) n e f some =
+    subst (λ (l : List ℕ). Turns node (s ∷ rest) l n) (after_is x name) (turn node s rest x name n e f)
 
 same_part : (s part : ℕ) → ltb s part ≡ false → ltb part s ≡ false → s ≡ part
 same_part s part low high = omega (arith, ltb-false s part low, ltb-false part s high)
@@ -95,36 +100,9 @@ same_part s part low high = omega (arith, ltb-false s part low, ltb-false part s
 counted : (loose counts : Bool) (s x : ℕ) → (loose || counts) ≡ true → (not counts || s == x) ≡ true → loose ≡ false → s ≡ x
 counted loose counts s x e f tight = eqb-true s x (part_found counts (s == x) f (loose_or loose counts e tight))
 
--- the first number of a name lies below that of a fork without a mark
-pub goes_below : (t : Radix) (b : Box Branch Global) → t ≡ Fork b → (way : List Step) (name : List ℕ) (n : ℕ) → reaches t way n ≡ true → fits way name ≡ true
-    → 1 ≤ length name → b.value.loose ≡ false → get_or name 0 0 < b.value.part → reaches b.value.less way n ≡ true
-goes_below t b is way [] n e f some tight low = absurd (omega arith)
-goes_below t b is [] (x ∷ name) n e f some tight low = absurd (both_ways false refl (rw is at e))
-goes_below t b is (s ∷ rest) (x ∷ name) n e f some tight low =
-    let node = b.value in
-    let parts = and_true (node.loose || s.counts) _ (rw is at e) in
-    let fit = and_true (not s.counts || s.part == x) (fits rest name) f in
-    let part = counted node.loose s.counts s.part x parts.0 fit.0 tight in
-    let below : ltb s.part node.part ≡ true = lt-ltb s.part node.part (omega arith) in
-    rw below at parts.1
-
--- it lies above
-pub goes_above : (t : Radix) (b : Box Branch Global) → t ≡ Fork b → (way : List Step) (name : List ℕ) (n : ℕ) → reaches t way n ≡ true → fits way name ≡ true
-    → 1 ≤ length name → b.value.loose ≡ false → b.value.part < get_or name 0 0 → reaches b.value.greater way n ≡ true
-goes_above t b is way [] n e f some tight high = absurd (omega arith)
-goes_above t b is [] (x ∷ name) n e f some tight high = absurd (both_ways false refl (rw is at e))
-goes_above t b is (s ∷ rest) (x ∷ name) n e f some tight high =
-    let node = b.value in
-    let parts = and_true (node.loose || s.counts) _ (rw is at e) in
-    let fit = and_true (not s.counts || s.part == x) (fits rest name) f in
-    let part = counted node.loose s.counts s.part x parts.0 fit.0 tight in
-    let low : ltb s.part node.part ≡ false = le-ltb s.part node.part (omega arith) in
-    let above : ltb node.part s.part ≡ true = lt-ltb node.part s.part (omega arith) in
-    rw (low, above) at parts.1
-
 -- a way whose number is not the fork's turns to one side
 aside : (node : Branch) (s : Step) (rest : List Step) (x : ℕ) (name : List ℕ) (n : ℕ)
-    → ((node.loose || s.counts) && (cond (ltb s.part node.part) (reaches node.less (s ∷ rest) n) (cond (ltb node.part s.part) (reaches node.greater (s ∷ rest) n) ((node.loose_equal || s.counts) && ends_or node.row (reaches node.equal rest n) rest n)))) ≡ true
+    → reaches_fork node (s ∷ rest) n ≡ true
     → ((not s.counts || s.part == x) && fits rest name) ≡ true → node.loose_equal ≡ false → x ≢ node.part
     → (reaches node.less (s ∷ rest) n ≡ true) ⊎ (reaches node.greater (s ∷ rest) n ≡ true)
 aside node s rest x name n e f tight other =
@@ -141,17 +119,11 @@ aside node s rest x name n e f tight other =
     ]
 
 -- a fork of whose own number each step counts, and another number of the name
-pub goes_aside : (t : Radix) (b : Box Branch Global) → t ≡ Fork b → (way : List Step) (name : List ℕ) (n : ℕ) → reaches t way n ≡ true → fits way name ≡ true
-    → 1 ≤ length name → b.value.loose_equal ≡ false → get_or name 0 0 ≢ b.value.part → (reaches b.value.less way n ≡ true) ⊎ (reaches b.value.greater way n ≡ true)
-goes_aside t b is way [] n e f some tight other = absurd (omega arith)
-goes_aside t b is [] (x ∷ name) n e f some tight other = absurd (both_ways false refl (rw is at e))
-goes_aside t b is (s ∷ rest) (x ∷ name) n e f some tight other = aside b.value s rest x name n (rw is at e) f tight other
-
--- no name of no numbers fits a way of a fork
-pub has_number : (t : Radix) (b : Box Branch Global) → t ≡ Fork b → (way : List Step) (name : List ℕ) (n : ℕ) → reaches t way n ≡ true → fits way name ≡ true → 1 ≤ length name
-has_number t b is [] name n e f = absurd (both_ways false refl (rw is at e))
-has_number t b is (s ∷ rest) [] n e f = absurd (both_ways false refl f)
-has_number t b is (s ∷ rest) (x ∷ name) n e f = omega arith
+pub goes_aside : (node : Branch) (way : List Step) (name : List ℕ) (n : ℕ) → reaches_fork node way n ≡ true → fits way name ≡ true
+    → 1 ≤ length name → node.loose_equal ≡ false → get_or name 0 0 ≢ node.part → (reaches node.less way n ≡ true) ⊎ (reaches node.greater way n ≡ true)
+goes_aside node way [] n e f some tight other = absurd (omega arith)
+goes_aside node [] (x ∷ name) n e f some tight other = absurd (both_ways false refl e)
+goes_aside node (s ∷ rest) (x ∷ name) n e f some tight other = aside node s rest x name n e f tight other
 
 -- no way leads to a row of no rows
 pub leads_to_none : (t : Radix) → t ≡ None_of → (way : List Step) (n : ℕ) → reaches t way n ≡ true → {A : Type 0} → A
@@ -162,16 +134,6 @@ leads_to_none t is way n e = absurd (both_ways false refl (rw is at e))
 -- what is neither below nor above the number
 pub the_part : (x low high part : ℕ) → low ≡ part → high ≡ part → low ≤ x → x ≤ high → x ≡ part
 the_part x low high part e f a b = omega arith
-
--- a walk that is spent has no step left
-pub is_not_spent : (spent : Bool) (left : ℕ) → spent ≡ (left == 0) → spent ≡ true → 0 < left → {A : Type 0} → A
-is_not_spent spent left e f some = absurd (omega (arith, eqb-true left 0 (sym e ∙ f)))
-
--- ---- the best row, after more rows and yet more
-
-pub later_still : {R : Type 0} {passes : R → Bool} {beats : R → R → Bool} {rows : List R} {first second third : Option ℕ}
-    → IsLater passes beats rows first second → IsLater passes beats rows second third → IsLater passes beats rows first third
-later_still a b = record { fit = b.fit; kept = λ n covered. b.kept n (a.kept n covered) }
 
 -- ---- runs
 

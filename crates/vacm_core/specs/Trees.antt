@@ -5,6 +5,7 @@ use Rattle.vacm_core.specs.declared.tree.Tree.{Tree, Empty, Fork'}
 use Rattle.vacm_core.specs.declared.tree.Node.{Node}
 use Rattle.vacm_core.specs.declared.radix.Radix as Radixes
 use Rattle.vacm_core.specs.declared.radix.Radix.{Radix}
+use Rattle.vacm_core.specs.declared.radix.Branch.{Branch}
 use Rattle.vacm_core.specs.declared.tables.FamilyRow.{FamilyRow}
 use Rattle.vacm_core.specs.Rows.{same_family}
 use Rattle.vacm_core.specs.Tables.{KeysDiffer}
@@ -59,6 +60,15 @@ reaches (Radixes.Fork' p part here loose loose_equal less equal greater) (s ∷ 
     else (loose_equal || s.counts) && ends_or here (reaches equal rest row) rest row))
 reaches (Radixes.Segment' p parts loose below) way row =
     runs loose parts.items (λ rest. reaches below rest row) way
+
+-- the way leads from this fork to the row of this number, as `reaches` has it of a tree
+abbrev pub reaches_fork : Branch → List Step → ℕ → Bool
+reaches_fork node [] row = false
+reaches_fork node (s ∷ rest) row =
+    (node.loose || s.counts)
+    && (if nat_lt s.part node.part then reaches node.less (s ∷ rest) row
+    else (if nat_lt node.part s.part then reaches node.greater (s ∷ rest) row
+    else (node.loose_equal || s.counts) && ends_or node.row (reaches node.equal rest row) rest row))
 
 -- ---- names
 

@@ -2,7 +2,7 @@
 ghost use Rattle.std.specs.Prelude.{◌≡◌, ◌≢◌, ◌<◌, ◌≤◌, ◌&&◌, ◌==◌, ℕ, List, Contains, IsTrue, true, false, Some, length};
 ghost use Rattle.std.specs.Option.{ForSome};
 ghost use Rattle.vacm_core.specs.Best.{takes_over};
-ghost use Rattle.vacm_core.specs.Trees.{reaches, fits, IsFit, Covers, IsLater};
+ghost use Rattle.vacm_core.specs.Trees.{reaches, reaches_fork, fits, IsFit, Covers, IsLater};
 ghost use Rattle.vacm_core.specs.declared.tree.Step.{Step};
 
 use crate::contest::{Contest, takes_over};
@@ -80,6 +80,7 @@ fn is_spent(left: &mut usize, steps: usize) -> bool
 /// read first. It takes no memory. It takes fewer steps than are left, one for each fork that it
 /// enters and [`LOOSE_STEPS`] where it may go on in several ways: where none is left afterwards, it gave
 /// up, and there may be a better row.
+#[cycle(best)]
 pub fn best_below<C: Contest>(
     tree: &Radix,
     contest: &C,
@@ -95,16 +96,33 @@ pub fn best_below<C: Contest>(
         → fits way name.now ≡ true
         → Covers (C.passes contest.now) (C.beats contest.now) rows.now result n }
 {
-    let node: &Branch = match tree {
-        Radix::Empty => return best,
-        Radix::Segment(run) => {
-            return match run.after(name) {
-                Some(after) => best_below(&run.below, contest, rows, after, best, left),
-                None => best,
-            };
-        }
-        Radix::Fork(node) => node,
-    };
+    match tree {
+        Radix::Empty => best,
+        Radix::Segment(run) => match run.after(name) {
+            Some(after) => best_below(&run.below, contest, rows, after, best, left),
+            None => best,
+        },
+        Radix::Fork(node) => best_of_fork(node, contest, rows, name, best, left),
+    }
+}
+
+// The same of the rows that ways lead to from a fork.
+#[cycle(best)]
+fn best_of_fork<C: Contest>(
+    node: &Branch,
+    contest: &C,
+    rows: &[C::Row],
+    name: &[u32],
+    best: Option<usize>,
+    left: &mut usize,
+) -> Option<usize>
+    requires { IsFit (C.passes contest.now) rows.now best }
+    ensures later { IsLater (C.passes contest.now) (C.beats contest.now) rows.now best result }
+    ensures fewer { left.new ≤ left.old }
+    ensures found { 0 < left.new → (way : List Step) (n : ℕ) → reaches_fork node.now way n ≡ true
+        → fits way name.now ≡ true
+        → Covers (C.passes contest.now) (C.beats contest.now) rows.now result n }
+{
     let [first, after @ ..] = name else {
         return best;
     };
