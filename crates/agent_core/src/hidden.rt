@@ -9,7 +9,6 @@ ghost use Rattle.agent_core.specs.Reading.{visible};
 ghost use Rattle.agent_core.specs.Lookups.{IsPassed, PassesLong};
 ghost use Rattle.agent_core.specs.Hidden.{in_run, hidden_left, hidden_beside, IsNoneShown, IsHiddenRun, AreHiddenRuns, IsAheadOf, BeginsBehind};
 
-use crate::reading::is_shown_there;
 use crate::source::{Stand, Successors};
 use oid_core::{Oid, precedes};
 use setphase_core::Spot;
@@ -222,6 +221,28 @@ pub fn pass_hidden<S: Successors<L>, L: Ledger>(
     Ok(found)
 }
 
+// Whether the view shows a name at which a walk stands, with what the walk keeps of the name before.
+fn is_shown_by<S: Successors<L>, L: Ledger>(
+    source: &S,
+    name: &Oid,
+    stand: &mut Stand,
+    lookup: &mut Option<S::Lookup>,
+) -> bool
+    requires stands { S.stands source.now stand.old name.now }
+    requires lookup { IfSome lookup.old (λ lookup. S.is_lookup source.now lookup) }
+    ensures shown { result ≡ S.shows source.now name.now }
+    ensures stands { S.stands source.now stand.new name.now }
+    ensures lookup { IfSome lookup.new (λ lookup. S.is_lookup source.now lookup) }
+{
+    if source.is_known_shown(stand) {
+        return true;
+    }
+    match lookup {
+        Some(lookup) => source.has_name_by(name, lookup),
+        None => source.is_shown(name, stand),
+    }
+}
+
 // The name of the last instance that a walk passes from a hidden one on, which is in no run, and whether
 // the view shows an instance behind it: where that one stands is written over the spot. The walk ends also where it
 // reaches a run.
@@ -266,11 +287,12 @@ fn walk_hidden<S: Successors<L>, L: Ledger>(
     let mut last = source.name(alloc, spot)?;
     let ahead = hidden.ahead(&last);
     let mut found = source.next(last.as_slice(), stand, spot, steps);
+    let mut lookup = source.lookup(alloc);
     while found {
-        if is_shown_there(alloc, source, spot, stand)? {
+        let own = source.name(alloc, spot)?;
+        if is_shown_by(source, &own, stand, &mut lookup) {
             return Ok((last, true));
         }
-        let own = source.name(alloc, spot)?;
         if let Some(run) = reached(ahead, &own) {
             return Ok((last, run.end(stand, spot)));
         }

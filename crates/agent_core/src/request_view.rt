@@ -8,7 +8,7 @@ use oid_core::Oid;
 use setphase_core::{MibObject, Registry};
 use std::alloc::Global;
 use std::marker::Model;
-use vacm_core::{FrontAnswer, Name, Vacm};
+use vacm_core::{FamilyLookup, FrontAnswer, Name, Vacm};
 
 // The most names of a request that each ask the view of each object, whatever rows it has.
 const FEW_NAMES: usize = 3;
@@ -19,6 +19,9 @@ const FEW_ROWS: usize = 3_000;
 // The most family rows that so many names compare in all where each walk asks for a front at each object
 // at which it stands.
 const FRONT_ROWS: usize = 1_000;
+
+// The most family rows of which a walk keeps nothing from one name to the next.
+const FEW_FAMILIES: usize = 64;
 
 // An object, and whether a view is seen to hide it whole.
 #[derive(Drop)]
@@ -117,6 +120,26 @@ impl<'a> RequestView<'a> {
         ensures { result ≡ in_view self.now.families self.now.view name.now }
     {
         self.vacm.in_view(self.name, name).is_included()
+    }
+
+    /// The family rows, as a walk asks them of one name after the other. There is none of few rows, or where
+    /// there is no memory for it.
+    pub fn lookup(&self, alloc: Global) -> Option<FamilyLookup<'a>>
+        ensures { IfSome result (λ lookup. lookup ≡ self.now.families) }
+    {
+        if self.vacm.family_count() <= FEW_FAMILIES {
+            return None;
+        }
+        self.vacm.lookup(alloc).ok()
+    }
+
+    /// The same as [`RequestView::has`], with what is kept of the name before.
+    pub fn has_by(&self, name: &Oid, lookup: &mut FamilyLookup<'a>) -> bool
+        requires { lookup.old ≡ self.now.families }
+        ensures shown { result ≡ in_view self.now.families self.now.view name.now }
+        ensures lookup { lookup.new ≡ self.now.families }
+    {
+        lookup.has(self.name, name)
     }
 
     /// Whether a name is in the view, and, where answers have fronts, the shortest front of it under which the

@@ -21,7 +21,7 @@ use std::alloc::{AllocError, Global};
 use std::marker::Brand;
 use std::sync::ledger::{Blank, Ledger};
 use steps::Steps;
-use vacm_core::FrontAnswer;
+use vacm_core::{FamilyLookup, FrontAnswer};
 
 /// Managed objects, the world that they show (RFC 3416, 4.2: the variables to which an agent has
 /// access), and the view by which some instances are shown (RFC 3415, 2.4). Objects that the view is
@@ -127,13 +127,25 @@ impl<O: MibObject> Served<'_, O> {
     }
 }
 
-impl<O: MibObject> View for Served<'_, O> {
+impl<'a, O: MibObject> View for Served<'a, O> {
     ghost use Rattle.vacm_core.specs.Families.{in_view};
 
     ghost shows = { λ s name. in_view s.view.families s.view.view name };
 
+    type Lookup = FamilyLookup<'a>;
+
+    ghost is_lookup = { λ s lookup. lookup ≡ s.view.families };
+
     fn has_name(&self, name: &Oid) -> bool {
         self.view.has(name)
+    }
+
+    fn lookup(&self, alloc: Global) -> Option<FamilyLookup<'a>> {
+        self.view.lookup(alloc)
+    }
+
+    fn has_name_by(&self, name: &Oid, lookup: &mut FamilyLookup<'a>) -> bool {
+        self.view.has_by(name, lookup)
     }
 }
 

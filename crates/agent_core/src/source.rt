@@ -62,9 +62,27 @@ pub trait View {
     // Whether a name is in the view.
     ghost shows: { Self → List ℕ → Bool };
 
+    /// What a walk keeps of the view from one name to the next.
+    type Lookup: Drop;
+
+    // Whether something is kept of this view.
+    ghost is_lookup: { Self → Self.Lookup → Type 0 };
+
     /// Whether a name is in the view (RFC 3415, 2.4).
     fn has_name(&self, name: &Oid) -> bool
         ensures { result ≡ shows self.now name.now };
+
+    /// What a walk keeps of the view, of no name yet. There is none where nothing is to be kept, or where
+    /// there is no memory for it; no answer depends on that.
+    fn lookup(&self, alloc: Global) -> Option<Self::Lookup>
+        ensures { IfSome result (λ lookup. is_lookup self.now lookup) };
+
+    /// The same as `has_name`, with what is kept of the name before: it takes less time where the two
+    /// begin alike.
+    fn has_name_by(&self, name: &Oid, lookup: &mut Self::Lookup) -> bool
+        requires { is_lookup self.now lookup.old }
+        ensures shown { result ≡ shows self.now name.now }
+        ensures lookup { is_lookup self.now lookup.new };
 }
 
 /// Instances in the order of their names, each of which can be served, as a walk sees them, and the

@@ -22,11 +22,23 @@ pub struct Whole<'a, O: MibObject> {
 }
 
 impl<O: MibObject> View for Whole<'_, O> {
-    ghost use Rattle.std.specs.Prelude.{true};
+    ghost use Rattle.std.specs.Prelude.{true, ⊤};
 
     ghost shows = { λ s name. true };
 
+    type Lookup = ();
+
+    ghost is_lookup = { λ s lookup. ⊤ };
+
     fn has_name(&self, _name: &Oid) -> bool {
+        true
+    }
+
+    fn lookup(&self, _alloc: Global) -> Option<()> {
+        None
+    }
+
+    fn has_name_by(&self, _name: &Oid, _lookup: &mut ()) -> bool {
         true
     }
 }

@@ -1,6 +1,7 @@
 pub mod Agrees
 pub mod Bests
 pub mod Decided
+pub mod Followed
 pub mod Right
 pub mod Sound
 pub mod Ties

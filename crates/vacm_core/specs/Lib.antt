@@ -1,5 +1,6 @@
 pub mod Texts
 pub mod Bitmaps
+pub mod Candidates
 pub mod Levels
 pub mod Masks
 pub mod Rules

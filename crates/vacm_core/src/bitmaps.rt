@@ -1,6 +1,6 @@
 //! Bitmaps of family rows, by the numbers that names may have at each place of the rows' subtrees. Of
 //! many rows whose masks leave much open, a name is then compared with few.
-ghost use Rattle.std.specs.Prelude.{◌≡◌, ◌≢◌, ◌≤◌, ◌<◌, ◌*◌, ◌+◌, ℕ, true, length, All, IfOk, OnErr, slice_get, slice_index, slice_index_or, Some};
+ghost use Rattle.std.specs.Prelude.{◌≡◌, ◌≢◌, ◌≤◌, ◌<◌, ◌*◌, ◌+◌, ℕ, true, length, All, IfOk, IfSome, OnErr, slice_get, slice_index, slice_index_or, Some};
 ghost use Rattle.std.specs.Int.{bit_at};
 ghost use Rattle.vacm_core.specs.Bitmaps.{is_allowed, only_of, keeps, IsKept, IsSound, IsIn, AreIn, AreInBut};
 ghost use Rattle.vacm_core.specs.Families.{agrees_from};
@@ -204,6 +204,32 @@ impl Block {
         match self.front.len() {
             0 => false,
             long => place == long - 1 && name.starts_with(self.front.as_slice()),
+        }
+    }
+
+    // The bitmap of a place, where there is one.
+    fn at(&self, place: usize) -> Option<&PlaceBitmap>
+        ensures place { IfSome result (λ at. at.now.place ≡ place) }
+        ensures kept { IfSome result (λ at. (bit : ℕ) (row : FamilyRow) → IsSound self.now bit row
+            → IsKept at.now bit row) }
+    {
+        let k = self.places.len().checked_sub(place.saturating_add(1))?;
+        let at = self.places.get(k)?;
+        if at.place == place { Some(at) } else { None }
+    }
+
+    /// Those of some rows whose families may have a name with this number at a place. It takes no memory.
+    pub fn rows_at(&self, place: usize, number: u32, rows: u64) -> u64
+        ensures { (bit : ℕ) (row : FamilyRow) → bit < 64 → IsSound self.now bit row
+            → is_allowed (only_of row place) number ≡ true → bit_at rows bit ≡ 1
+            → bit_at result bit ≡ 1 }
+    {
+        if rows == 0 {
+            return 0;
+        }
+        match self.at(place) {
+            Some(at) => at.rows.rows_with(number, rows),
+            None => rows,
         }
     }
 

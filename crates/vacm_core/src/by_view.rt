@@ -1,12 +1,13 @@
 //! The row of a view that decides on a name, by the rows of the view in the order of their indexes:
 //! the last of them that has the name (RFC 3415, vacmViewTreeFamilyTable).
-ghost use Rattle.std.specs.Prelude.{◌≡◌, ◌≤◌, ◌<◌, ◌-◌, ◌/◌, ◌%◌, ℕ, true, false, IsTrue, All, length, take, drop, slice_get, slice_index_or};
+ghost use Rattle.std.specs.Prelude.{◌≡◌, ◌≤◌, ◌<◌, ◌-◌, ◌/◌, ◌%◌, ℕ, true, false, IsTrue, IfSome, All, length, take, drop, slice_get, slice_index_or};
 ghost use Rattle.std.specs.Int.{bit_at};
 ghost use Rattle.std.specs.Option.{ForSome};
 ghost use Rattle.std.specs.Cmp.Lexicographic.{slice_cmp};
 ghost use Rattle.std.specs.List.Sorted.{IsPartitionPoint};
 ghost use Rattle.std.specs.Ordering.{nat_cmp, is_lt};
 ghost use Rattle.vacm_core.specs.Bitmaps.{IsIn, AreIn};
+ghost use Rattle.vacm_core.specs.Candidates.{IsOfName};
 ghost use Rattle.vacm_core.specs.Families.{agrees_from, matches, deciding_family};
 ghost use Rattle.vacm_core.specs.FamilyIndex.{family_index};
 ghost use Rattle.vacm_core.specs.Keys.{index_key, IsIndex};
@@ -16,6 +17,7 @@ ghost use Rattle.vacm_core.specs.Rows.{same_family};
 ghost use Rattle.vacm_core.specs.Tables.{KeysDiffer};
 
 use crate::bitmaps::{BLOCK_ROWS, Block};
+use crate::candidates::Candidates;
 use crate::deciding::agrees_by_bits;
 use crate::name::Name;
 use crate::tables::FamilyRow;
@@ -228,11 +230,24 @@ fn rows_left(blocks: &[Block], block: usize, name: &[u32]) -> u64
     }
 }
 
+// The same, by the candidates of the name where they are kept.
+fn left_of(blocks: &[Block], kept: Option<&Candidates>, block: usize, name: &[u32]) -> u64
+    requires { IfSome kept (λ candidates. IsOfName blocks.now candidates.now name.now) }
+    ensures { (rank : ℕ) (row : FamilyRow) → rank / 64 ≡ block → IsIn blocks.now rank row
+        → agrees_from 0 row.mask row.subtree name.now ≡ true → bit_at result (rank % 64) ≡ 1 }
+{
+    match kept {
+        Some(candidates) => candidates.left(blocks, block),
+        None => rows_left(blocks, block, name),
+    }
+}
+
 // The last of the rows between two places of an index that is of a view and has a name, by bitmaps.
 fn last_of_blocks(
     rows: &[FamilyRow],
     index: &[usize],
     blocks: &[Block],
+    kept: Option<&Candidates>,
     range: (usize, usize),
     view: &Name,
     name: &[u32],
@@ -241,6 +256,7 @@ fn last_of_blocks(
     requires order { range.0 ≤ range.1 }
     requires end { range.1 ≤ length index.now }
     requires blocks { AreIn rows.now index.now blocks.now }
+    requires kept { IfSome kept (λ candidates. IsOfName blocks.now candidates.now name.now) }
     ensures { IsLastMatch rows.now view.now name.now
         (take (range.1 - range.0) (drop range.0 index.now)) result }
 {
@@ -248,7 +264,7 @@ fn last_of_blocks(
     for block in (first / BLOCK_ROWS..end.div_ceil(BLOCK_ROWS)).rev() {
         let from = first.max(block * BLOCK_ROWS);
         let to = end.min(block * BLOCK_ROWS + BLOCK_ROWS);
-        let left = rows_left(blocks, block, name) >> (from % BLOCK_ROWS);
+        let left = left_of(blocks, kept, block, name) >> (from % BLOCK_ROWS);
         if let Some(n) = last_left(rows, &index[from..to], left, view, name) {
             return Some(n);
         }
@@ -257,16 +273,19 @@ fn last_of_blocks(
 }
 
 /// The number of the row of a view that decides on a name, found among the rows of the view from
-/// behind, by their bitmaps where there are some. It takes no memory.
+/// behind, by their bitmaps where there are some, and by the candidates of the name where they are kept. It
+/// takes no memory.
 pub fn last_of_view(
     rows: &[FamilyRow],
     ranks: Ranks<'_>,
     blocks: &[Block],
+    kept: Option<&Candidates>,
     view: &Name,
     name: &[u32],
 ) -> Option<usize>
     requires index { IsIndex index_key rows.now ranks.index.now }
     requires blocks { AreIn rows.now ranks.index.now blocks.now }
+    requires kept { IfSome kept (λ candidates. IsOfName blocks.now candidates.now name.now) }
     requires differ { KeysDiffer same_family rows.now }
     ensures place { result ≡ deciding_family rows.now view.now name.now }
     ensures within { ForSome result (λ n. n < length rows.now) }
@@ -276,6 +295,6 @@ pub fn last_of_view(
     if blocks.is_empty() {
         last_match(rows, &index[first..end], view, name)
     } else {
-        last_of_blocks(rows, index, blocks, (first, end), view, name)
+        last_of_blocks(rows, index, blocks, kept, (first, end), view, name)
     }
 }

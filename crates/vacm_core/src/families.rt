@@ -19,11 +19,13 @@ ghost use Rattle.vacm_core.specs.declared.tables.FamilyRow.{FamilyRow};
 use crate::bitmaps::{Block, bitmaps_of, put_row};
 use crate::by_index::{self, numbers_by_index};
 use crate::by_view::{Ranks, last_of_view};
+use crate::candidates::Candidates;
 use crate::copying::copied_rows;
 use crate::deciding::{FamilyContest, mask_bit};
 use crate::front;
 use crate::index::{Keyed, index_of, with_key};
 use crate::limits::MAX_NAME;
+use crate::lookup::FamilyLookup;
 use crate::name::{Mask, Name};
 use crate::numbers::put_numbers;
 use crate::radix::{Radix, packed};
@@ -54,6 +56,9 @@ const LEAST_STEPS: usize = 12;
 // For how many rows it may take one more.
 const ROWS_PER_STEP: usize = 32;
 
+// How many masks that had a 0 are put before all marks of the tree are made anew.
+const MOST_STALE: usize = 64;
+
 impl Keyed for FamilyRow {
     ghost key = { view_key };
 
@@ -79,6 +84,8 @@ pub struct Families {
     blocks: Vec<Block>,
     // Where the rows of each view begin in that index, of many rows.
     starts: Vec<usize>,
+    // How many masks that had a 0 were put since all marks of the tree were made anew. That saves time alone.
+    stale: usize,
 }
 
 impl Model for Families {
@@ -108,6 +115,7 @@ impl Drop for Families {
             table_index: _table_index,
             blocks: _blocks,
             starts: _starts,
+            stale: _stale,
         } = self;
     }
 }
@@ -135,6 +143,7 @@ impl Families {
             table_index,
             blocks,
             starts,
+            stale: 0,
         })
     }
 
@@ -157,9 +166,9 @@ impl Families {
         self.rows.as_slice()
     }
 
-    /// Puts the mask of the row of this number, and gives the one that it had. It takes no memory. A
-    /// mask that had no 0 takes a walk along one way, any other one along the way of each row; both go
-    /// along the index. What stays marked that no row needs any more costs time alone, and no clause
+    /// Puts the mask of the row of this number, and gives the one that it had. It takes no memory. It goes
+    /// along the way of its row and along the index; once in [`MOST_STALE`] masks that had a 0 it goes along
+    /// the way of each row. What stays marked that no row needs any more costs time alone, and no clause
     /// speaks of it.
     pub fn put_mask(&mut self, n: usize, mask: Mask) -> Mask
         requires { n < length self.old }
@@ -169,7 +178,8 @@ impl Families {
     {
         let before = put_mask(&mut self.rows, n, mask);
         let was_open = has_zero(before.as_slice());
-        mark_changed(&mut self.tree, self.rows.as_slice(), n, was_open);
+        let renews = is_renewal(&mut self.stale, was_open);
+        mark_changed(&mut self.tree, self.rows.as_slice(), n, renews);
         let index = self.table_index.as_slice();
         put_row(&mut self.blocks, index, self.rows.as_slice(), n);
         before
@@ -182,6 +192,27 @@ impl Families {
         ensures before { option_map (λ row. row.included) (slice_get self.old n) ≡ Some result }
     {
         put_type(&mut self.rows, n, included)
+    }
+
+    /// The same rows, as they are asked of one name after the other.
+    ///
+    /// # Errors
+    ///
+    /// Where there is no memory for what is kept of a name.
+    pub fn lookup(&self, alloc: Global) -> Result<FamilyLookup<'_>, AllocError>
+        ensures { IfOk result (λ lookup. lookup ≡ self.now) }
+    {
+        Ok(FamilyLookup {
+            rows: self.rows.as_slice(),
+            tree: &self.tree,
+            ranks: Ranks {
+                index: self.table_index.as_slice(),
+                starts: self.starts.as_slice(),
+            },
+            blocks: self.blocks.as_slice(),
+            candidates: Candidates::new(alloc)?,
+            gave_up: false,
+        })
     }
 
     /// The number of the row of a view that decides on a name. It takes no memory.
@@ -289,14 +320,27 @@ fn mark_all(tree: &mut Radix, rows: &[FamilyRow])
     }
 }
 
-// Marks what the steps of a row, whose mask was changed, do not count. Where some did not count
-// before, marks may have gone, and all are made anew.
-fn mark_changed(tree: &mut Radix, rows: &[FamilyRow], n: usize, was_open: bool)
+// Whether all marks are made anew, since so many masks that had a 0 were put, the last one among them: each
+// may have left marks that no row needs.
+fn is_renewal(stale: &mut usize, was_open: bool) -> bool {
+    if !was_open {
+        return false;
+    }
+    if *stale < MOST_STALE {
+        *stale += 1;
+        return false;
+    }
+    *stale = 0;
+    true
+}
+
+// Marks what the steps of a row, whose mask was changed, do not count; or makes all marks anew.
+fn mark_changed(tree: &mut Radix, rows: &[FamilyRow], n: usize, renews: bool)
     requires within { n < length rows.now }
     requires tree { IsTreeBut (reaches tree.old) rows.now n }
     ensures { IsTreeOf (reaches tree.new) rows.now }
 {
-    if was_open {
+    if renews {
         tree.clear();
         mark_all(tree, rows);
     } else {
@@ -402,7 +446,12 @@ fn tree_of(alloc: Global, rows: &[FamilyRow]) -> Result<Radix, AllocError>
 
 // The number of the family row of a view that decides on a name, of those in their tree, unless the
 // walk of the tree gives up, since masks leave much open.
-fn walked(tree: &Radix, rows: &[FamilyRow], view: &Name, name: &[u32]) -> Option<Option<usize>>
+pub(crate) fn walked(
+    tree: &Radix,
+    rows: &[FamilyRow],
+    view: &Name,
+    name: &[u32],
+) -> Option<Option<usize>>
     requires tree { IsTreeOf (reaches tree.now) rows.now }
     requires differ { KeysDiffer same_family rows.now }
     requires short { length name.now ≤ MAX_NUMBERS }
@@ -419,7 +468,7 @@ fn walked(tree: &Radix, rows: &[FamilyRow], view: &Name, name: &[u32]) -> Option
 
 // Whether a scan takes no longer than a walk of the tree of rows: there are few of them, or bitmaps of
 // rows whose ways part first at a place that some mask leaves open.
-fn is_for_scan(tree: &Radix, rows: &[FamilyRow], blocks: &[Block]) -> bool {
+pub(crate) fn is_for_scan(tree: &Radix, rows: &[FamilyRow], blocks: &[Block]) -> bool {
     if tree.starts_loose() {
         rows.len() <= FEW_OPEN_ROWS || !blocks.is_empty()
     } else {
@@ -447,10 +496,10 @@ fn deciding_family(
 {
     let name = name.as_slice();
     if is_for_scan(tree, rows, blocks) {
-        return last_of_view(rows, ranks, blocks, view, name);
+        return last_of_view(rows, ranks, blocks, None, view, name);
     }
     match walked(tree, rows, view, name) {
         Some(best) => best,
-        None => last_of_view(rows, ranks, blocks, view, name),
+        None => last_of_view(rows, ranks, blocks, None, view, name),
     }
 }

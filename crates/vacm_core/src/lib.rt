@@ -8,7 +8,8 @@
 //! for every name. `Vacm::hides_all` says where a view is seen to hide every name that begins with
 //! a prefix. `Vacm::next_family` and `Vacm::family_at` find a family row by its index in
 //! vacmViewTreeFamilyTable. `Vacm::put_mask` and `Vacm::put_type` change it in place, and give what
-//! it had. None of these but `new` takes memory.
+//! it had. `Vacm::lookup` gives a [`FamilyLookup`], which is asked of one name after the other, and
+//! keeps of each which rows may have the next one. None of these but `new` and `lookup` takes memory.
 //!
 //! `Vacm::try_copy` copies the tables. `Vacm::rows` gives the rows as they are written; [`Same`]
 //! compares two of these. [`checked_rows`] checks a table of any rows that are [`WrittenRow`],
@@ -40,7 +41,8 @@
 //! `Vacm` keeps a radix tree of its family rows, and `Vacm::in_view` goes by it, or by the order of
 //! their indexes (`specs/OfView.antt`): the row that it finds is the one that decides among all of
 //! them. Of more than 64 rows it goes by bitmaps there (`specs/Bitmaps.antt`), and keeps at which
-//! places of that order the rows of each view are likely to begin. `specs/Keys.antt`: the order of
+//! places of that order the rows of each view are likely to begin. A [`FamilyLookup`] keeps which rows
+//! are left by each count of the numbers of a name (`specs/Candidates.antt`). `specs/Keys.antt`: the order of
 //! rows by their keys, by which a `Vacm` finds a group row, the access rows of a group, whether a
 //! view has a family, and a family row by its index.
 //!
@@ -68,15 +70,18 @@
 //! word for each digit of four bits that differs in them, of each number of the name. So it takes at
 //! most some twice the time of a scan of the view's rows, but where a view has a few of many rows, and
 //! where many rows are open at different places, less. `Vacm::in_view_under` takes the time of
-//! `Vacm::in_view`, and then reads each family row once. `Vacm::put_mask` goes along the index, and
-//! along the way of its row where the mask before had no 0, else along that of each row: some 0.3 ms
-//! at 1,000 rows. A run of numbers of which a put mask leaves one open is passed whole, while any does.
+//! `Vacm::in_view`, and then reads each family row once. `Vacm::put_mask` goes along the index and
+//! the way of its row, and once in 65 masks that had a 0 along the way of each row: some 0.3 ms at 1,000
+//! rows. Until then a run of numbers of which a mask left one open is passed whole, and a place that a
+//! mask left open is entered by each number. `FamilyLookup::has` reads a word of each block, of 32 at
+//! most, for each number behind those that the name has alike with the name before.
 //! Nor does a clause say that bitmaps leave few rows; they leave each row that has the name.
 #![tactic(auto)]
 
 mod bitmaps;
 mod by_index;
 mod by_view;
+mod candidates;
 mod checking;
 mod contest;
 mod copying;
@@ -88,6 +93,7 @@ mod hiding;
 mod index;
 pub mod laws;
 mod limits;
+mod lookup;
 mod name;
 mod numbers;
 mod radix;
@@ -109,6 +115,7 @@ pub use contest::{Contest, deciding_row};
 pub use copying::{CopiedAs, copied_rows};
 pub use fault::{TableFault, VacmTable, Wrong};
 pub use limits::{MAX_FAMILY, MAX_MASK, MAX_MODEL, MAX_NAME};
+pub use lookup::FamilyLookup;
 pub use name::{Mask, Name};
 pub use rows::Rows;
 pub use same::Same;

@@ -8,6 +8,7 @@ use crate::families::Families;
 use crate::fault::{TableFault, VacmTable};
 use crate::index::index_of;
 use crate::limits::MAX_FAMILY;
+use crate::lookup::FamilyLookup;
 use crate::name::{Mask, Name};
 use crate::rows::Rows;
 use crate::tables::{AccessRow, FamilyRow, GroupRow};
@@ -237,9 +238,20 @@ impl Vacm {
         }
     }
 
+    /// The family rows, as they are asked of one name after the other ([`FamilyLookup::has`]).
+    ///
+    /// # Errors
+    ///
+    /// Where there is no memory for what is kept of a name: about 33 kB.
+    pub fn lookup(&self, alloc: Global) -> Result<FamilyLookup<'_>, AllocError>
+        ensures { IfOk result (λ lookup. lookup ≡ self.now.families) }
+    {
+        self.families.lookup(alloc)
+    }
+
     /// Puts the mask of the family row of this number, and gives the one that it had
     /// (vacmViewTreeFamilyMask of RFC 3415). All else stays, each row's number and index too. It takes
-    /// no memory. Where the mask before had no 0 it goes along that row alone, else once along each
+    /// no memory. It goes along that row and the index; once in 65 masks that had a 0 it goes along each
     /// row.
     pub fn put_mask(&mut self, n: usize, mask: Mask) -> Mask
         requires { n < length self.old.families }

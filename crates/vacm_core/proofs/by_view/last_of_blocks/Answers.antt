@@ -7,8 +7,8 @@ pub last_left-requires-clause-left : goal.last_left-requires-clause-left
 last_left-requires-clause-left c =
     let from = c.max-from.result in
     let to = c.min-to.result in
-    left_between c.args.rows.now c.args.view.now c.args.name.now c.args.index.now c.args.blocks.now c.rows_left.result (c.loop-block.block - 1) from to
-    c.requires.blocks c.rows_left.ensures (omega (arith, c.max-from.ensures)) (omega (arith, c.min-to.ensures)) (omega (arith, c.min-to.ensures, c.requires.end))
+    left_between c.args.rows.now c.args.view.now c.args.name.now c.args.index.now c.args.blocks.now c.left_of.result (c.loop-block.block - 1) from to
+    c.requires.blocks c.left_of.ensures (omega (arith, c.max-from.ensures)) (omega (arith, c.min-to.ensures)) (omega (arith, c.min-to.ensures, c.requires.end))
 
 pub returns-in-Some : goal.returns-in-Some
 returns-in-Some c =
