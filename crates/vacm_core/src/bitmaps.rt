@@ -6,6 +6,7 @@ ghost use Rattle.vacm_core.specs.Bitmaps.{is_allowed, only_of, keeps, IsKept, Is
 ghost use Rattle.vacm_core.specs.Families.{agrees_from};
 ghost use Rattle.vacm_core.specs.declared.tables.FamilyRow.{FamilyRow};
 
+use crate::compared::alike;
 use crate::deciding::mask_bit;
 use crate::tables::FamilyRow;
 use std::alloc::{AllocError, Global};
@@ -276,19 +277,6 @@ fn differing(rows: &[FamilyRow], numbers: &[usize], place: usize, number: u32) -
         bits |= part_at(rows, *n, place) ^ number;
     }
     bits
-}
-
-// How many numbers two lists begin with alike.
-fn alike(one: &[u32], other: &[u32]) -> usize
-    ensures { result ≤ length one.now }
-{
-    let most = one.len().min(other.len());
-    for count in 0..most {
-        if one[count] != other[count] {
-            return count;
-        }
-    }
-    most
 }
 
 // The numbers that the subtrees of all these rows begin with.

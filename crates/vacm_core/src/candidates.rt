@@ -10,6 +10,7 @@ ghost use Rattle.vacm_core.specs.declared.bitmaps.Block.{Block};
 ghost use Rattle.vacm_core.specs.declared.tables.FamilyRow.{FamilyRow};
 
 use crate::bitmaps::Block;
+use crate::compared::alike;
 use arrayvec::ArrayVec;
 use oid_core::MAX_NUMBERS;
 use std::alloc::{AllocError, Global};
@@ -31,21 +32,6 @@ pub struct Candidates {
     pub numbers: ArrayVec<u32, MAX_NUMBERS>,
     /// The rows that are left, by how many of the numbers are compared, from none on.
     pub levels: Vec<Level>,
-}
-
-// How many numbers two names have alike from the first on.
-fn alike(one: &[u32], other: &[u32]) -> usize
-    ensures one { result ≤ length one.now }
-    ensures other { result ≤ length other.now }
-    ensures same { take result one.now ≡ take result other.now }
-{
-    let most = one.len().min(other.len());
-    for count in 0..most {
-        if one[count] != other[count] {
-            return count;
-        }
-    }
-    most
 }
 
 // The rows of a level that are left where a name has this number at the next place.

@@ -1,5 +1,5 @@
 //! The family rows with their tree, and the row of a view that decides on a name.
-ghost use Rattle.std.specs.Prelude.{◌≡◌, ◌≤◌, ◌<◌, ◌==◌, ℕ, List, [], Some, true, not, length, All, IfOk, OnOk, OnErr, bytes_eq, slice_get, slice_index, slice_index_or, option_map};
+ghost use Rattle.std.specs.Prelude.{◌≡◌, ◌≤◌, ◌<◌, ◌==◌, ◌+◌, ◌&&◌, if◌then◌else◌, nat_lt, ℕ, List, [], Some, true, not, length, All, IfOk, OnOk, OnErr, bytes_eq, slice_get, slice_index, slice_index_or, option_map};
 ghost use Rattle.std.specs.List.{list_any};
 ghost use Rattle.std.specs.Option.{ForSome};
 ghost use Rattle.vacm_core.specs.Rows.{same_family};
@@ -14,6 +14,7 @@ ghost use Rattle.vacm_core.specs.Changes.{with_mask, with_type};
 ghost use Rattle.vacm_core.specs.Trees.{leads, reaches, counting_part, way_of, IsPlaced, IsNumbered, IsTreeOf, IsTreeBut, AreNumbered};
 ghost use Rattle.vacm_core.specs.declared.tree.Step.{Step};
 ghost use Rattle.vacm_core.specs.declared.limits.TheConstants.{MAX_MASK};
+ghost use Rattle.vacm_core.specs.declared.families.TheConstants.{MOST_STALE};
 ghost use Rattle.vacm_core.specs.declared.tables.FamilyRow.{FamilyRow};
 
 use crate::bitmaps::{Block, bitmaps_of, put_row};
@@ -167,8 +168,8 @@ impl Families {
     }
 
     /// Puts the mask of the row of this number, and gives the one that it had. It takes no memory. It goes
-    /// along the way of its row and along the index; once in [`MOST_STALE`] masks that had a 0 it goes along
-    /// the way of each row. What stays marked that no row needs any more costs time alone, and no clause
+    /// along the way of its row and along the index; where the mask before has a 0, and [`MOST_STALE`] such
+    /// masks went before, it goes along the way of each row. What stays marked that no row needs any more costs time alone, and no clause
     /// speaks of it.
     pub fn put_mask(&mut self, n: usize, mask: Mask) -> Mask
         requires { n < length self.old }
@@ -322,7 +323,11 @@ fn mark_all(tree: &mut Radix, rows: &[FamilyRow])
 
 // Whether all marks are made anew, since so many masks that had a 0 were put, the last one among them: each
 // may have left marks that no row needs.
-fn is_renewal(stale: &mut usize, was_open: bool) -> bool {
+fn is_renewal(stale: &mut usize, was_open: bool) -> bool
+    ensures renews { result ≡ (was_open && not (nat_lt stale.old MOST_STALE)) }
+    ensures stale { stale.new ≡ (if not was_open then stale.old
+        else if nat_lt stale.old MOST_STALE then stale.old + 1 else 0) }
+{
     if !was_open {
         return false;
     }

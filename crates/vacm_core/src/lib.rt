@@ -83,6 +83,7 @@ mod by_index;
 mod by_view;
 mod candidates;
 mod checking;
+mod compared;
 mod contest;
 mod copying;
 mod deciding;

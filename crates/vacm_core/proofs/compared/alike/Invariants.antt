@@ -1,5 +1,5 @@
 use Rattle.std.proofs.Common.{◌≡◌, take}
-use Rattle.vacm_core.proofs.candidates.alike.Given as goal
+use Rattle.vacm_core.proofs.compared.alike.Given as goal
 
 -- the numbers so far are alike
 abbrev pub invariant-loop-count : goal.invariant-loop-count
