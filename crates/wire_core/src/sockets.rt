@@ -1,6 +1,6 @@
 //! The sockets by which frames go to the peers of ports.
-ghost use Rattle.std.specs.Prelude.{◌≡◌};
-ghost use Rattle.std.specs.BTreeMap.{get};
+ghost use Rattle.std.specs.Prelude.{◌≡◌, All, IfOk};
+ghost use Rattle.std.specs.BTreeMap.{get, ContainsKey};
 ghost use Rattle.std.specs.Option.{unwrap_or};
 
 use crate::losses::{Losses, cause_of};
@@ -24,7 +24,10 @@ impl SendingSockets {
     ///
     /// # Errors
     /// That of the system, or of a refused growth.
-    pub fn bind<R: Net>(rt: &R, alloc: Global, peers: &[SocketAddr]) -> io::Result<SendingSockets> {
+    pub fn bind<R: Net>(rt: &R, alloc: Global, peers: &[SocketAddr]) -> io::Result<SendingSockets>
+        ensures { IfOk result (λ sockets.
+            All (ContainsKey ⟦<SocketAddr as Ord>⟧.cmp sockets.by_peer) peers.now) }
+    {
         let mut by_peer = BTreeMap::new(alloc);
         for peer in peers {
             by_peer.insert(*peer, bind_for(rt, *peer)?)?;
