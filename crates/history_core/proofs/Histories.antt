@@ -14,12 +14,12 @@ use Rattle.history_core.specs.declared.event.Event.{Event}
 use Rattle.history_core.specs.declared.limits.TheConstants.{MAX_ENTRIES}
 use Rattle.history_core.proofs.Stepping.{SameStep, step_over, rows_of-resting, step_rests, fresh-at_rest}
 
-replay-snoc : (rows : List ObjectRow) (w : World) (es : List Entry) (e : Entry)
+pub replay-snoc : (rows : List ObjectRow) (w : World) (es : List Entry) (e : Entry)
     → replay rows w (es ++ e ∷ []) ≡ (step_at rows (replay rows w es) e).world
 replay-snoc rows w [] e = refl
 replay-snoc rows w (x ∷ es) e = replay-snoc rows (step_at rows w x).world es e
 
-IsLegal-snoc : (rows : List ObjectRow) (w : World) (es : List Entry) (e : Entry) → IsLegal rows w es
+pub IsLegal-snoc : (rows : List ObjectRow) (w : World) (es : List Entry) (e : Entry) → IsLegal rows w es
     → IsEntry rows (replay rows w es) e → IsLegal rows w (es ++ e ∷ [])
 IsLegal-snoc rows w [] e legal is = (is, tt)
 IsLegal-snoc rows w (x ∷ es) e legal is = (legal.0, IsLegal-snoc rows (step_at rows w x).world es e legal.1 is)
@@ -33,13 +33,13 @@ noted : (h : History) (e : Event) (n : Notes) → MayBe h e n → notes_of (next
 noted h e n m = λ i. record { no_room = n.no_room; devices = record { commit = n.devices.commit; undos = m.undos i }; unnamed = n.unnamed }
 
 -- what the entry's own notes make of the world, over resting objects, is the step
-entry_steps : (h : History) (e : Event) (n : Notes) → MayBe h e n
+pub entry_steps : (h : History) (e : Event) (n : Notes) → MayBe h e n
     → SameStep (next_step h e n) (step_at (rows_of h.objects) h.world (next_entry h e n))
 entry_steps h e n m =
     subst (λ (x : Notes). SameStep (next_step h e n) (step_of (resting (rows_of h.objects)) h.world e x)) (sym (noted h e n m))
     (step_over h.objects (resting (rows_of h.objects)) h.world e n (sym (rows_of-resting (rows_of h.objects))))
 
-entry_is : (h : History) (e : Event) (n : Notes) → MayBe h e n → IsEntry (rows_of h.objects) h.world (next_entry h e n)
+pub entry_is : (h : History) (e : Event) (n : Notes) → MayBe h e n → IsEntry (rows_of h.objects) h.world (next_entry h e n)
 entry_is h e n m =
     let s = entry_steps h e n m in
     record {

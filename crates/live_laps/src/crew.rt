@@ -6,11 +6,11 @@ ghost use Rattle.live_run.specs.Crews.{MayBegin};
 ghost use Rattle.live_laps.specs.Laps.{HaveGone};
 
 use crate::interval::Intervals;
-use history_core::Kept;
+use history_core::{Entry, Kept};
 use live_agent::{End, Plan};
 use live_lock::{Live, Run};
 use live_run::{LineTask, run_lines};
-use rising::Blank;
+use rising::{Blank, BlankLog};
 use setphase_core::MibObject;
 use std::marker::Brand;
 use std::sync::{Wait, ledger};
@@ -29,6 +29,7 @@ fn run_over<
     blank: ledger::Blank,
     number: Blank,
     moved: Blank,
+    log: BlankLog<Entry>,
     lines: Vec<N>,
     ends: Vec<End>,
 ) -> (Kept<O>, Vec<N>, Vec<End>)
@@ -36,13 +37,14 @@ fn run_over<
     requires all { blank.parts ≡ L.parts }
     requires number { number.name ≡ L.rise }
     requires moved { moved.name ≡ L.base_rise }
+    requires log_name { log.name ≡ L.log_name }
     requires start { kept ≡ L.start }
     requires parts { vec_len lines < blank.parts }
     requires begin { MayBegin (2 ^ 32) lines ends }
     ensures { HaveGone N.gone plan.now L.start result.0 lines.items
         result.1.items result.2.items }
 {
-    let (live, share) = Live::<O, L>::new(kept, blank, number, moved);
+    let (live, share) = Live::<O, L>::new(kept, blank, number, moved, log);
     let (share, lines, ends) = run_lines::<O, L, Intervals, N, End, R>(
         rt, plan, &live, share, lines, ends,
     );
@@ -74,6 +76,7 @@ pub fn run_from<O: MibObject + Send, N: LineTask<Intervals, End> + Send, R: Thre
         blank,
         Blank::new(),
         Blank::new(),
+        BlankLog::new(),
         lines,
         ends,
     )

@@ -1,6 +1,6 @@
-//! What lies under the lock: the history, the book of what was entered since the start, and how much
-//! that is.
-ghost use Rattle.std.specs.Prelude.{◌≡◌, ◌+◌, ◌<◌, ◌≤◌, IfOk, OnErr};
+//! What lies under the lock: the history, the log of all its entries since the start, the book of them, and
+//! how many they are.
+ghost use Rattle.std.specs.Prelude.{◌≡◌, ◌+◌, ◌<◌, ◌≤◌, List, [], length, IfOk, OnErr};
 ghost use Rattle.history_core.specs.Encoded.{IsDuplicateOf};
 ghost use Rattle.history_core.specs.History.{IsHistory};
 ghost use Rattle.history_core.specs.Receipts.{reported_of, TakesMemory};
@@ -8,12 +8,15 @@ ghost use Rattle.history_core.specs.Steps.{IsEncodable};
 ghost use Rattle.live_lock.specs.Sharing.{entry_count, IsHeld, TakesPlace, IsReportedOf};
 ghost use Rattle.live_lock.specs.Counting.{IsCounted};
 ghost use Rattle.live_lock.specs.Rising.{Rises};
+ghost use Rattle.live_lock.specs.Whole.{StandsIn, IsLegalFrom, IsWhole, world_after};
+ghost use mathlib.Core.List.{IsPrefix};
+ghost use Rattle.history_core.specs.declared.entry.Entry.{Entry};
 
 use crate::run::{Base, Run};
 use crate::share::Share;
 use agent_core::Buffer;
-use history_core::{Applied, Duplicate, Event, Kept};
-use rising::{Blank, Latest};
+use history_core::{Applied, Duplicate, Entry, Event, Kept};
+use rising::{Blank, BlankLog, Latest, Log};
 use setphase_core::MibObject;
 use std::alloc::{AllocError, Global};
 use std::marker::Model;
@@ -35,7 +38,8 @@ pub struct Counts {
     pub unknown_contexts: u32,
 }
 
-/// A history and the book of what was entered since the start, seen as the history and the count.
+/// A history, with the log and the book of what was entered since the start. It is seen as the history and
+/// the count.
 pub struct Held<O: MibObject, L: Run> {
     kept: Kept<O>,
     next_at_start: u64,
@@ -43,6 +47,7 @@ pub struct Held<O: MibObject, L: Run> {
     book: Book<L>,
     latest: Latest<L>,
     base: Latest<Base<L>>,
+    log: Log<Entry, L>,
 }
 
 // By hand: who drops one then knows nothing of its parts.
@@ -55,6 +60,7 @@ impl<O: MibObject, L: Run> Drop for Held<O, L> {
             book: _book,
             latest: _latest,
             base: _base,
+            log: _log,
         } = self;
     }
 }
@@ -63,6 +69,7 @@ impl<O: MibObject, L: Run> Model for Held<O, L> {
     ghost use Rattle.std.specs.Prelude.{◌≡◌, ℕ, ◌+◌};
     ghost use Rattle.history_core.specs.History.{History, next_of};
     ghost use Rattle.live_lock.specs.Sharing.{IsHeld};
+    ghost use Rattle.live_lock.specs.Whole.{IsWhole};
 
     ghost Value = { History × ℕ };
 
@@ -72,7 +79,8 @@ impl<O: MibObject, L: Run> Model for Held<O, L> {
         × (h.next_at_start ≡ next_of L.start)
         × (h.base_at_start ≡ L.start.base_number)
         × (h.latest.number ≡ h.book.total)
-        × (h.kept.base_number ≡ L.start.base_number + h.base.number) };
+        × (h.kept.base_number ≡ L.start.base_number + h.base.number)
+        × IsWhole L.start h.log.log h.kept };
 }
 
 impl<O: MibObject, L: Run> Held<O, L> {
@@ -82,16 +90,21 @@ impl<O: MibObject, L: Run> Held<O, L> {
         blank: ledger::Blank,
         number: Blank,
         moved: Blank,
+        log: BlankLog<Entry>,
     ) -> (Held<O, L>, Share<L>)
         requires name { blank.name ≡ L.name }
         requires parts { blank.parts ≡ L.parts }
         requires number { number.name ≡ L.rise }
         requires moved { moved.name ≡ L.base_rise }
+        requires log_name { log.name ≡ L.log_name }
         requires start { kept ≡ L.start }
         ensures parts { result.1.parts ≡ L.parts }
         ensures amount { result.1.amount ≡ 0 }
         ensures known { (result.1.known ≡ 0) × (result.1.older ≡ 0) }
+        ensures front { result.1.front ≡ [] }
     {
+        kept.legal();
+        let (log, front) = log.open::<L>();
         let (book, made) = blank.open::<L>();
         let (latest, reached) = number.open::<L>();
         let (base, moved) = moved.open::<Base<L>>();
@@ -104,12 +117,13 @@ impl<O: MibObject, L: Run> Held<O, L> {
             book,
             latest,
             base,
+            log,
         };
-        (held, Share::new(made, reached, moved))
+        (held, Share::new(made, reached, moved, front))
     }
 
-    /// One event happens, and its entry is counted. Its duplicate was made before. The share then
-    /// knows of all entries.
+    /// One event happens, and its entry is noted in the log, and counted. Its duplicate was made before. The
+    /// share then knows of all entries, and has seen them.
     pub fn apply(
         &mut self,
         alloc: Global,
@@ -123,6 +137,9 @@ impl<O: MibObject, L: Run> Held<O, L> {
         requires duplicate { IfOk duplicate (λ d. IsDuplicateOf event d) }
         requires takes { OnErr duplicate (TakesMemory (reported_of event)) }
         ensures place { TakesPlace L.start share.old.amount event result buffer.new }
+        ensures stands { StandsIn L.start share.new.front event result buffer.new }
+        ensures legal { IsLegalFrom L.start share.new.front }
+        ensures seen { IsPrefix share.old.front share.new.front }
         ensures reported { IsReportedOf event result buffer.new }
         ensures rises { Rises L.start share.old.known result share.new.known }
         ensures older { share.old.older ≤ share.new.older }
@@ -134,12 +151,14 @@ impl<O: MibObject, L: Run> Held<O, L> {
             book,
             latest,
             base,
+            log,
             ..
         } = self;
         kept.legal();
         let base_before = kept.base_number();
         let applied = kept.apply_duplicated(alloc, event, duplicate, buffer);
         let base_after = kept.base_number();
+        share.note(kept, log, &applied);
         share.enter(
             book,
             latest,
@@ -154,6 +173,13 @@ impl<O: MibObject, L: Run> Held<O, L> {
     /// the share counts, and by those that it knew of. It then knows of all.
     pub fn counts(&mut self, share: &mut Share<L>) -> Counts
         ensures counted { IsCounted L.start share.old.amount result }
+        ensures exact { result.entries ≡ length share.new.front }
+        ensures bad_communities { result.bad_communities
+            ≡ (world_after L.start share.new.front).bad_communities }
+        ensures unknown_contexts { result.unknown_contexts
+            ≡ (world_after L.start share.new.front).unknown_contexts }
+        ensures legal { IsLegalFrom L.start share.new.front }
+        ensures seen { IsPrefix share.old.front share.new.front }
         ensures rises { (share.old.known ≤ result.entries) × (share.old.older ≤ result.older) }
         ensures known { (share.new.known ≡ result.entries) × (share.new.older ≡ result.older) }
         ensures amount { share.new.amount ≡ share.old.amount }
@@ -166,9 +192,10 @@ impl<O: MibObject, L: Run> Held<O, L> {
             book,
             latest,
             base,
+            log,
         } = self;
         kept.legal();
-        share.observe(book, latest, base);
+        share.observe(book, latest, base, log);
         let world = kept.world();
         Counts {
             entries: kept.next_number() - *next_at_start,
@@ -183,6 +210,7 @@ impl<O: MibObject, L: Run> Held<O, L> {
         requires { share.parts ≡ L.parts }
         ensures held { IsHeld L.start result share.amount }
         ensures legal { IsHistory result }
+        ensures whole { (log : List Entry) × IsPrefix share.front log × IsWhole L.start log result }
     {
         let mut share = share;
         let Held {
@@ -192,8 +220,9 @@ impl<O: MibObject, L: Run> Held<O, L> {
             mut book,
             mut latest,
             mut base,
+            mut log,
         } = self;
-        share.observe(&mut book, &mut latest, &mut base);
+        share.observe(&mut book, &mut latest, &mut base, &mut log);
         kept.legal();
         kept
     }

@@ -1,5 +1,8 @@
 //! A history under a lock, and the events that any thread has happen in it.
-ghost use Rattle.std.specs.Prelude.{◌≡◌, ◌+◌, ◌<◌, ◌≤◌};
+ghost use Rattle.std.specs.Prelude.{◌≡◌, ◌+◌, ◌<◌, ◌≤◌, List, [], length};
+ghost use mathlib.Core.List.{IsPrefix};
+ghost use Rattle.history_core.specs.declared.entry.Entry.{Entry};
+ghost use Rattle.live_lock.specs.Whole.{StandsIn, IsLegalFrom, IsWhole, world_after};
 ghost use Rattle.message_core.specs.Encodable.{AreEncodable};
 ghost use Rattle.history_core.specs.History.{IsHistory};
 ghost use Rattle.history_core.specs.Steps.{IsEncodable};
@@ -14,9 +17,9 @@ use crate::share::Share;
 use agent_core::Buffer;
 use community_core::Policy;
 use frame_core::FrameIn;
-use history_core::{Applied, Duplicate, Event, Kept};
+use history_core::{Applied, Duplicate, Entry, Event, Kept};
 use message_core::Request;
-use rising::Blank;
+use rising::{Blank, BlankLog};
 use setphase_core::MibObject;
 use std::alloc::Global;
 use std::hint::spin_loop;
@@ -45,17 +48,20 @@ impl<O: MibObject, L: Run> Live<O, L> {
         blank: ledger::Blank,
         number: Blank,
         moved: Blank,
+        log: BlankLog<Entry>,
     ) -> (Live<O, L>, Share<L>)
         requires name { blank.name ≡ L.name }
         requires parts { blank.parts ≡ L.parts }
         requires number { number.name ≡ L.rise }
         requires moved { moved.name ≡ L.base_rise }
+        requires log_name { log.name ≡ L.log_name }
         requires start { kept ≡ L.start }
         ensures parts { result.1.parts ≡ L.parts }
         ensures amount { result.1.amount ≡ 0 }
         ensures known { (result.1.known ≡ 0) × (result.1.older ≡ 0) }
+        ensures front { result.1.front ≡ [] }
     {
-        let (held, share) = Held::new(kept, blank, number, moved);
+        let (held, share) = Held::new(kept, blank, number, moved, log);
         let live = Live {
             held: Mutex::new(held),
         };
@@ -74,6 +80,9 @@ impl<O: MibObject, L: Run> Live<O, L> {
     ) -> Applied
         requires { 0 < share.old.parts }
         ensures place { TakesPlace L.start share.old.amount (event.Frame port frame) result buffer.new }
+        ensures stands { StandsIn L.start share.new.front (event.Frame port frame) result buffer.new }
+        ensures legal { IsLegalFrom L.start share.new.front }
+        ensures seen { IsPrefix share.old.front share.new.front }
         ensures reported { IsReportedOf (event.Frame port frame) result buffer.new }
         ensures rises { Rises L.start share.old.known result share.new.known }
         ensures older { share.old.older ≤ share.new.older }
@@ -93,6 +102,9 @@ impl<O: MibObject, L: Run> Live<O, L> {
     ) -> Applied
         requires { 0 < share.old.parts }
         ensures place { TakesPlace L.start share.old.amount event.Tick result buffer.new }
+        ensures stands { StandsIn L.start share.new.front event.Tick result buffer.new }
+        ensures legal { IsLegalFrom L.start share.new.front }
+        ensures seen { IsPrefix share.old.front share.new.front }
         ensures reported { IsReportedOf event.Tick result buffer.new }
         ensures rises { Rises L.start share.old.known result share.new.known }
         ensures older { share.old.older ≤ share.new.older }
@@ -114,6 +126,9 @@ impl<O: MibObject, L: Run> Live<O, L> {
     ) -> Applied
         requires { 0 < share.old.parts }
         ensures place { TakesPlace L.start share.old.amount (event.Link port up) result buffer.new }
+        ensures stands { StandsIn L.start share.new.front (event.Link port up) result buffer.new }
+        ensures legal { IsLegalFrom L.start share.new.front }
+        ensures seen { IsPrefix share.old.front share.new.front }
         ensures reported { IsReportedOf (event.Link port up) result buffer.new }
         ensures rises { Rises L.start share.old.known result share.new.known }
         ensures older { share.old.older ≤ share.new.older }
@@ -134,6 +149,9 @@ impl<O: MibObject, L: Run> Live<O, L> {
     ) -> Applied
         requires { 0 < share.old.parts }
         ensures place { TakesPlace L.start share.old.amount (event.Policy policy) result buffer.new }
+        ensures stands { StandsIn L.start share.new.front (event.Policy policy) result buffer.new }
+        ensures legal { IsLegalFrom L.start share.new.front }
+        ensures seen { IsPrefix share.old.front share.new.front }
         ensures reported { IsReportedOf (event.Policy policy) result buffer.new }
         ensures rises { Rises L.start share.old.known result share.new.known }
         ensures older { share.old.older ≤ share.new.older }
@@ -157,6 +175,9 @@ impl<O: MibObject, L: Run> Live<O, L> {
         requires part { 0 < share.old.parts }
         requires encodable { AreEncodable request.bindings }
         ensures place { TakesPlace L.start share.old.amount (event.Request request) result buffer.new }
+        ensures stands { StandsIn L.start share.new.front (event.Request request) result buffer.new }
+        ensures legal { IsLegalFrom L.start share.new.front }
+        ensures seen { IsPrefix share.old.front share.new.front }
         ensures reported { IsReportedOf (event.Request request) result buffer.new }
         ensures rises { Rises L.start share.old.known result share.new.known }
         ensures older { share.old.older ≤ share.new.older }
@@ -196,6 +217,9 @@ impl<O: MibObject, L: Run> Live<O, L> {
         requires part { 0 < share.old.parts }
         requires encodable { IsEncodable event }
         ensures place { TakesPlace L.start share.old.amount event result buffer.new }
+        ensures stands { StandsIn L.start share.new.front event result buffer.new }
+        ensures legal { IsLegalFrom L.start share.new.front }
+        ensures seen { IsPrefix share.old.front share.new.front }
         ensures reported { IsReportedOf event result buffer.new }
         ensures rises { Rises L.start share.old.known result share.new.known }
         ensures older { share.old.older ≤ share.new.older }
@@ -212,6 +236,13 @@ impl<O: MibObject, L: Run> Live<O, L> {
     /// then knows that.
     pub fn counts<R: Wait>(&self, rt: &R, share: &mut Share<L>) -> Counts
         ensures counted { IsCounted L.start share.old.amount result }
+        ensures exact { result.entries ≡ length share.new.front }
+        ensures bad_communities { result.bad_communities
+            ≡ (world_after L.start share.new.front).bad_communities }
+        ensures unknown_contexts { result.unknown_contexts
+            ≡ (world_after L.start share.new.front).unknown_contexts }
+        ensures legal { IsLegalFrom L.start share.new.front }
+        ensures seen { IsPrefix share.old.front share.new.front }
         ensures rises { (share.old.known ≤ result.entries) × (share.old.older ≤ result.older) }
         ensures known { (share.new.known ≡ result.entries) × (share.new.older ≡ result.older) }
         ensures amount { share.new.amount ≡ share.old.amount }
@@ -226,6 +257,7 @@ impl<O: MibObject, L: Run> Live<O, L> {
         requires { share.parts ≡ L.parts }
         ensures held { IsHeld L.start result share.amount }
         ensures legal { IsHistory result }
+        ensures whole { (log : List Entry) × IsPrefix share.front log × IsWhole L.start log result }
     {
         let Live { held } = self;
         held.into_inner().into_kept(share)

@@ -1,14 +1,14 @@
 //! What a run of threads starts from.
 ghost use Rattle.std.specs.Prelude.{ℕ};
 
-use rising::Rising;
+use rising::{Naming, Rising};
 use std::marker::{Brand, PhantomData};
 use std::sync::ledger::Ledger;
 
 /// A run of threads over one history: the ledger that counts their entries, the number of all entries
-/// since the start, which only rises, that by which the base has moved, and where the history stood
-/// as it was put under the lock. Each call of a program picks its own.
-pub trait Run: Ledger + Rising {
+/// since the start, which only rises, that by which the base has moved, the log of all entries, and
+/// where the history stood as it was put under the lock. Each call of a program picks its own.
+pub trait Run: Ledger + Rising + Naming {
     ghost use Rattle.history_core.specs.History.{History};
 
     /// The history that was put under the lock.

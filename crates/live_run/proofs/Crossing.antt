@@ -48,11 +48,13 @@ use Rattle.history_core.specs.contracts.kept.Kept.TheInside as kept_inside
 use Rattle.live_lock.specs.contracts.held.Held as held
 use Rattle.live_lock.specs.contracts.held.Held.TheInside as held_inside
 use Rattle.std.proofs.sync.ledger.Book.TheSendSync as book
+use Rattle.rising.proofs.LogSent.{log_send}
 use Rattle.rising.proofs.Sent.{latest_send}
 use Rattle.live_lock.specs.contracts.live.Live as live
 use Rattle.setphase_core.specs.declared.object.MibObject.{Ghosts}
 use Rattle.live_lock.specs.declared.run.Run.{Ghosts as RunGhosts}
 use Rattle.std.specs.declared.sync.ledger.Ledger.{Ghosts as LedgerGhosts}
+use Rattle.rising.specs.declared.logs.Naming.{Ghosts as NamingGhosts}
 use Rattle.rising.specs.declared.tokens.Rising.{Ghosts as RisingGhosts}
 
 radix_layer : (h : block.the_members → RattleType) → ((j : block.the_members) → IsSend (h j)) → IsSend (layer_row Knot.ring block.member-Radix h)
@@ -125,9 +127,9 @@ entry_send = struct_row_send entry.the_type (search (sendable, crosses, event_fi
 kept_send : (O : RattleType) (g : Ghosts O.Denot) → IsSend O → IsSend (kept.the_row O g)
 kept_send O g o = view_send _ _ _ _ _ (struct_row_send (kept_inside.the_type O g) (search (sendable, crosses, world_field_send, entry_send, flat_world.the_send, registry.the_send) depth 30))
 
-held_send : (O L : RattleType) (g : Ghosts O.Denot) (r : RunGhosts L.Denot) (l : LedgerGhosts L.Denot) (n : RisingGhosts L.Denot) → IsSend O → IsSend (held.the_row O L g r l n)
-held_send O L g r l n o = view_send _ _ _ _ _ (struct_row_send (held_inside.the_type O L g r l n) (search (sendable, crosses, kept_send, book.the_send, latest_send) depth 30))
+held_send : (O L : RattleType) (g : Ghosts O.Denot) (r : RunGhosts L.Denot) (l : LedgerGhosts L.Denot) (n : RisingGhosts L.Denot) (m : NamingGhosts L.Denot) → IsSend O → IsSend (held.the_row O L g r l n m)
+held_send O L g r l n m o = view_send _ _ _ _ _ (struct_row_send (held_inside.the_type O L g r l n m) (search (sendable, crosses, kept_send, book.the_send, latest_send, log_send) depth 30))
 
 -- A history under a lock is shared where its objects are sent.
-pub live_sync : (O L : RattleType) (g : Ghosts O.Denot) (r : RunGhosts L.Denot) (l : LedgerGhosts L.Denot) (n : RisingGhosts L.Denot) → IsSend O → IsSync (live.the_row O L g r l n)
-live_sync O L g r l n o = search (sendable, crosses, held_send) depth 30
+pub live_sync : (O L : RattleType) (g : Ghosts O.Denot) (r : RunGhosts L.Denot) (l : LedgerGhosts L.Denot) (n : RisingGhosts L.Denot) (m : NamingGhosts L.Denot) → IsSend O → IsSync (live.the_row O L g r l n m)
+live_sync O L g r l n m o = search (sendable, crosses, held_send) depth 30

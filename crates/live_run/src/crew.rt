@@ -10,10 +10,10 @@ ghost use Rattle.live_run.specs.Crews.{WorkerRan, PortRan, TickerRan, RanBetween
 
 use crate::line_task::{LineKind, LineTask, Ports, Tickers, Workers};
 use crate::lines::{Lines, Runs};
-use history_core::Kept;
+use history_core::{Entry, Kept};
 use live_agent::{GatedWire, PacedWire, Plan, Ran};
 use live_lock::{Live, Run, Share};
-use rising::Blank;
+use rising::{Blank, BlankLog};
 use setphase_core::MibObject;
 use std::marker::Brand;
 use std::sync::{Wait, ledger};
@@ -37,7 +37,7 @@ pub fn run_lines<
     mut lines: Vec<N>,
     ends: Vec<E>,
 ) -> (Share<L>, Vec<N>, Vec<E>)
-    requires shared { MayShare O.row L.row O.MibObject L.start L.base_rise L.name L.parts L.rise }
+    requires shared { MayShare O.row L.row O.MibObject L.start L.base_rise L.name L.parts L.rise L.log_name }
     requires parts { vec_len lines < share.parts }
     requires begin { MayBegin K.limit lines ends }
     ensures { HaveRun (N.gone (run_start_of L.start plan.now) plan.now.rounds) lines ends share result }
@@ -56,7 +56,8 @@ pub fn run_lines<
             ensures parts { result.0.parts ≡ mine.parts }
         { line.run_line(rt, plan, live, place, mine) },
         move || -> (Share<L>, Vec<N>, Vec<E>)
-            requires { IsSync R.row × MayShare O.row L.row O.MibObject L.start L.base_rise L.name L.parts L.rise
+            requires { IsSync R.row
+                × MayShare O.row L.row O.MibObject L.start L.base_rise L.name L.parts L.rise L.log_name
                 × (vec_len lines < share.parts) × MayBegin K.limit lines ends }
             ensures { HaveRun (N.gone (run_start_of L.start plan.entry.now) plan.entry.now.rounds) lines ends share
                 result }
@@ -86,7 +87,7 @@ fn run_bridge<
     ticker: T,
     runs: Vec<Ran>,
 ) -> (Share<L>, Vec<W>, Vec<Ran>, T, Ran)
-    requires shared { MayShare O.row L.row O.MibObject L.start L.base_rise L.name L.parts L.rise }
+    requires shared { MayShare O.row L.row O.MibObject L.start L.base_rise L.name L.parts L.rise L.log_name }
     requires parts { vec_len ports + 1 < share.parts }
     requires begin { MayBegin (2 ^ 16) ports runs }
     ensures ports { AllRan (PortRan W.went W.failures (run_start_of L.start plan.now) plan.now.rounds) 1
@@ -100,7 +101,8 @@ fn run_bridge<
     let (passed, ticked) = join(
         rt,
         move || -> (Share<L>, Vec<W>, Vec<Ran>)
-            requires { IsSync R.row × MayShare O.row L.row O.MibObject L.start L.base_rise L.name L.parts L.rise
+            requires { IsSync R.row
+                × MayShare O.row L.row O.MibObject L.start L.base_rise L.name L.parts L.rise L.log_name
                 × (vec_len ports < theirs.parts) × MayBegin (2 ^ 16) ports runs }
             ensures { HaveRun (λ place. RanBetween (PortRan W.went W.failures
                 (run_start_of L.start plan.entry.now) plan.entry.now.rounds (place + 1))) ports runs theirs result }
@@ -135,7 +137,7 @@ fn run_crew<
     worker_runs: Vec<Ran>,
     port_runs: Vec<Ran>,
 ) -> (Share<L>, Lines<A, W, T>, Runs)
-    requires shared { MayShare O.row L.row O.MibObject L.start L.base_rise L.name L.parts L.rise }
+    requires shared { MayShare O.row L.row O.MibObject L.start L.base_rise L.name L.parts L.rise L.log_name }
     requires parts { vec_len lines.workers + vec_len lines.ports + 2 < share.parts }
     requires workers { MayBegin (2 ^ 16) lines.workers worker_runs }
     requires ports { MayBegin (2 ^ 16) lines.ports port_runs }
@@ -153,13 +155,15 @@ fn run_crew<
     let (worked, bridged) = join(
         rt,
         move || -> (Share<L>, Vec<A>, Vec<Ran>)
-            requires { IsSync R.row × MayShare O.row L.row O.MibObject L.start L.base_rise L.name L.parts L.rise
+            requires { IsSync R.row
+                × MayShare O.row L.row O.MibObject L.start L.base_rise L.name L.parts L.rise L.log_name
                 × (vec_len workers < theirs.parts) × MayBegin (2 ^ 16) workers worker_runs }
             ensures { HaveRun (λ place. RanBetween (WorkerRan A.did A.failures
                 (run_start_of L.start plan.entry.now) plan.entry.now.rounds place)) workers worker_runs theirs result }
         { run_lines::<O, L, Workers, A, Ran, R>(rt, plan, live, theirs, workers, worker_runs) },
         move || -> (Share<L>, Vec<W>, Vec<Ran>, T, Ran)
-            requires { IsSync R.row × MayShare O.row L.row O.MibObject L.start L.base_rise L.name L.parts L.rise
+            requires { IsSync R.row
+                × MayShare O.row L.row O.MibObject L.start L.base_rise L.name L.parts L.rise L.log_name
                 × (vec_len ports + 1 < share.parts) × MayBegin (2 ^ 16) ports port_runs }
             ensures ports { AllRan (PortRan W.went W.failures (run_start_of L.start plan.entry.now)
                 plan.entry.now.rounds) 1 ports.items result.1.items result.2.items }
@@ -200,6 +204,7 @@ fn run_over<
     blank: ledger::Blank,
     number: Blank,
     moved: Blank,
+    log: BlankLog<Entry>,
     lines: Lines<A, W, T>,
     worker_runs: Vec<Ran>,
     port_runs: Vec<Ran>,
@@ -208,6 +213,7 @@ fn run_over<
     requires all { blank.parts ≡ L.parts }
     requires number { number.name ≡ L.rise }
     requires moved { moved.name ≡ L.base_rise }
+    requires log_name { log.name ≡ L.log_name }
     requires start { kept ≡ L.start }
     requires parts { vec_len lines.workers + vec_len lines.ports + 2 < blank.parts }
     requires workers { MayBegin (2 ^ 16) lines.workers worker_runs }
@@ -217,7 +223,7 @@ fn run_over<
     ensures held { IsHeld L.start result.0 (entered_of result.2) }
     ensures legal { IsHistory result.0 }
 {
-    let (live, share) = Live::<O, L>::new(kept, blank, number, moved);
+    let (live, share) = Live::<O, L>::new(kept, blank, number, moved, log);
     let (share, lines, runs) = run_crew(rt, plan, &live, share, lines, worker_runs, port_runs);
     let kept = live.close(share);
     (kept, lines, runs)
@@ -258,6 +264,7 @@ pub fn run_from<
         blank,
         Blank::new(),
         Blank::new(),
+        BlankLog::new(),
         lines,
         worker_runs,
         port_runs,

@@ -5,11 +5,11 @@ ghost use Rattle.std.specs.Prelude.{◌≡◌, ◌<◌};
 use crate::fixtures::worlds::built_in;
 use crate::support::{OPERATOR, PEER_OF_PORT_1, Shown, history_of, loopback, plan_of};
 use control_text::MAX_POLICY;
-use history_core::Kept;
+use history_core::{Entry, Kept};
 use live_agent::End;
 use live_control::{COMMAND_SPACE, ControlItem, Controlled, DropCounts, DropTally, control_run};
 use live_lock::{Live, Run};
-use rising::Blank;
+use rising::{Blank, BlankLog};
 use std::alloc::Global;
 use std::marker::Brand;
 use std::sync::{Wait, ledger};
@@ -78,16 +78,18 @@ fn commanded<L: Run, W: Wire, C: Wire, R: Wait>(
     blank: ledger::Blank,
     number: Blank,
     moved: Blank,
+    log: BlankLog<Entry>,
     wires: Controlled<W, C>,
 ) -> Result<Done<W, C>, Fail>
     requires name { blank.name ≡ L.name }
     requires all { blank.parts ≡ L.parts }
     requires number { number.name ≡ L.rise }
     requires moved { moved.name ≡ L.base_rise }
+    requires log_name { log.name ≡ L.log_name }
     requires some { 0 < blank.parts }
     requires start { kept ≡ L.start }
 {
-    let (live, mut share) = Live::<Shown, L>::new(kept, blank, number, moved);
+    let (live, mut share) = Live::<Shown, L>::new(kept, blank, number, moved, log);
     let plan = plan_of(alloc, 20)?;
     let mut wires = wires;
     let mut space = vec![in alloc; 0u8; COMMAND_SPACE]?;
@@ -108,7 +110,16 @@ fn run_over<W: Wire, C: Wire, R: Wait>(
     let kept = history(alloc)?;
     let blank = ledger::Blank::new(1);
     let wires = Controlled { wire, control };
-    commanded::<Brand, W, C, R>(rt, alloc, kept, blank, Blank::new(), Blank::new(), wires)
+    commanded::<Brand, W, C, R>(
+        rt,
+        alloc,
+        kept,
+        blank,
+        Blank::new(),
+        Blank::new(),
+        BlankLog::new(),
+        wires,
+    )
 }
 
 // A wire that gives these commands, in order, and is closed behind them.

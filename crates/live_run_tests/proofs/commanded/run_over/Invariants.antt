@@ -8,3 +8,6 @@ ghosts-commanded-L-Rising g a = record { rise = a.number.name }
 
 abbrev pub ghosts-commanded-L-Run : goal.ghosts-commanded-L-Run
 ghosts-commanded-L-Run g a = record { start = a.kept; base_rise = a.moved.name }
+
+abbrev pub ghosts-commanded-L-Naming : goal.ghosts-commanded-L-Naming
+ghosts-commanded-L-Naming g a = record { log_name = a.log.name }
