@@ -193,23 +193,25 @@ fn go_round<O: MibObject, L: Run, W: Wire, K: Recorder, R: Wait>(
     ensures failures { W.failures wire.new ≡ failures_at result (W.failures wire.old) }
     ensures parts { share.new.parts ≡ share.old.parts }
 {
+    let mut octets = [0u8; FRAME_SPACE];
     for _i in 0..line.plan.rounds {
         if state.recorder.reserve().is_err() {
             return End::Memory;
         }
-        if let Some(end) = port_turn(line, share, wire, state) {
+        if let Some(end) = port_turn(line, share, wire, state, &mut octets) {
             return end;
         }
     }
     End::Rounds
 }
 
-// One turn of a port, with memory for its item.
+// One turn of a port, with memory for its item, and a buffer for a frame.
 fn port_turn<O: MibObject, L: Run, W: Wire, K: Recorder, R: Wait>(
     line: &PortLine<O, L, R>,
     share: &mut Share<L>,
     wire: &mut W,
     state: &mut LineState<K>,
+    octets: &mut [u8; FRAME_SPACE],
 ) -> Option<End>
     requires part { 0 < share.old.parts }
     requires space { K.has_space state.old.recorder }
@@ -220,8 +222,7 @@ fn port_turn<O: MibObject, L: Run, W: Wire, K: Recorder, R: Wait>(
     ensures failures { W.failures wire.new ≡ failures_by result (W.failures wire.old) }
     ensures parts { share.new.parts ≡ share.old.parts }
 {
-    let mut octets = [0u8; FRAME_SPACE];
-    match wire.receive(&mut octets) {
+    match wire.receive(octets) {
         Err(fault) => Some(End::Wire(fault)),
         Ok(Received::Nothing) => None,
         Ok(Received::Closed) => Some(End::Closed),
