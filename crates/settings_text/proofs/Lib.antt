@@ -1,0 +1,13 @@
+pub mod Inserted
+pub mod Rows
+pub mod Depths
+pub mod StaticIndexes
+pub mod Lookups
+pub mod Values
+pub mod BridgeBack
+pub mod PortsBack
+pub mod Added
+pub mod StaticsBack
+pub mod RoundTrip
+pub mod Viewed
+pub mod Listed

@@ -1,0 +1,11 @@
+pub mod Results
+pub mod Numbers
+pub mod Settings
+pub mod Building
+pub mod Writing
+pub mod KnownKeys
+pub mod Reading
+pub mod PortRows
+pub mod StaticRows
+pub mod Parts
+pub mod ReadingRows

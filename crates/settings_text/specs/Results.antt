@@ -1,0 +1,8 @@
+-- A value or the first fault.
+use Rattle.std.specs.Prelude.{Result, Ok, Err}
+
+-- the next step, where there is no fault
+infixl 10 ◌>!>◌
+abbrev pub ◌>!>◌ : {A B E : Type 0} → Result A E → (A → Result B E) → Result B E
+Ok x >!> f = f x
+Err e >!> f = Err e
