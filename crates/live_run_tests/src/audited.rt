@@ -72,11 +72,12 @@ impl Outlet for Recorder {
     }
 }
 
-// Offers the lines of so many requests to a queue, and writes those that wait there to this output; gives how
-// many were lost.
+// Offers the lines of so many requests to a queue, the first of this number, and writes those that wait there
+// to this output; gives how many were lost.
 fn written<R: Wait + Clock>(
     rt: &R,
     alloc: Global,
+    first: u64,
     requests: u64,
     audits: &mut Recorder,
 ) -> Result<u64, Fail> {
@@ -85,7 +86,7 @@ fn written<R: Wait + Clock>(
     let audit = audit_of_nothing(alloc);
     for number in 0..requests {
         gate.before(rt, 0);
-        gate.after(rt, 0, answered(number), &audit);
+        gate.after(rt, 0, answered(first.saturating_add(number)), &audit);
     }
     queue.close(rt);
     let mut log = Recorder::failing(alloc, 0);
@@ -97,11 +98,12 @@ fn written<R: Wait + Clock>(
 #[test]
 fn lines_that_are_offered_are_written_in_order(rt: HostRuntime) -> Result<(), Fail> {
     let mut out = Recorder::failing(rt.alloc(), 0);
-    let lost = written(&rt, rt.alloc(), 2, &mut out)?;
+    let lost = written(&rt, rt.alloc(), 4_294_967_295, 2, &mut out)?;
     assert_eq!(rt;
         (out.taken.as_slice(), lost),
         (
-            &b"0 127.0.0.1:30001 -7 get 0 0 empty\n1 127.0.0.1:30001 -7 get 0 0 empty\n"[..],
+            &b"4294967295 127.0.0.1:30001 -7 get 0 0 empty\n\
+                4294967296 127.0.0.1:30001 -7 get 0 0 empty\n"[..],
             0
         )
     );
@@ -130,7 +132,7 @@ fn answered_octets(number: u64) -> usize {
 #[test]
 fn lines_beyond_the_space_are_lost(rt: HostRuntime) -> Result<(), Fail> {
     let mut out = Recorder::failing(rt.alloc(), 0);
-    let lost = written(&rt, rt.alloc(), 60_000, &mut out)?;
+    let lost = written(&rt, rt.alloc(), 0, 60_000, &mut out)?;
     let lines = out.taken.iter().filter(|octet| **octet == b'\n').count() as u64;
     assert_eq!(rt; lines.saturating_add(lost), 60_000);
     assert_eq!(rt; out.taken.len(), octets_of(lines));
@@ -142,8 +144,8 @@ fn lines_beyond_the_space_are_lost(rt: HostRuntime) -> Result<(), Fail> {
 #[test]
 fn lines_of_a_write_that_fails_are_lost(rt: HostRuntime) -> Result<(), Fail> {
     let mut out = Recorder::failing(rt.alloc(), 1);
-    assert_eq!(rt; written(&rt, rt.alloc(), 3, &mut out)?, 3);
-    assert_eq!(rt; written(&rt, rt.alloc(), 1, &mut out)?, 0);
+    assert_eq!(rt; written(&rt, rt.alloc(), 0, 3, &mut out)?, 3);
+    assert_eq!(rt; written(&rt, rt.alloc(), 0, 1, &mut out)?, 0);
     assert_eq!(rt;
         out.taken.as_slice(),
         &b"0 127.0.0.1:30001 -7 get 0 0 empty\n"[..]

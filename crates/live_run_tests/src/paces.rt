@@ -52,6 +52,23 @@ fn seconds_that_passed_have_one_tick(rt: HostRuntime) -> Result<(), Fail> {
     Ok(())
 }
 
+// Weeks and a hundred years behind the start a tick comes at the next whole second still, and what passed
+// since the one before is missed whole.
+#[test]
+fn ticks_come_at_whole_seconds_years_on(rt: HostRuntime) -> Result<(), Fail> {
+    let clock = SetClock::at(0);
+    let (mut pace, missed) = pace_by(rt.alloc(), &clock)?;
+    clock.set(4_294_967_996);
+    let weeks_on = (slept(&mut pace, &clock)?, missed.take());
+    let next = (slept(&mut pace, &clock)?, missed.take());
+    clock.set(4_294_967_296_250);
+    let years_on = (slept(&mut pace, &clock)?, missed.take());
+    let last = (slept(&mut pace, &clock)?, missed.take());
+    assert_eq!(rt; (weeks_on, next), ((0, 4_294_966), (4, 0)));
+    assert_eq!(rt; (years_on, last), ((0, 4_290_672_327), (750, 0)));
+    Ok(())
+}
+
 // A tick that is late by less than a second misses none.
 #[test]
 fn late_tick_misses_no_second(rt: HostRuntime) -> Result<(), Fail> {
@@ -88,6 +105,29 @@ fn clock_may_fail(rt: HostRuntime) -> Result<(), Fail> {
     clock.stop();
     let is_refused = WholeSecondPace::new(&clock, Arc::try_clone(&missed)?).is_err();
     assert_eq!(rt; (is_refused, slept(&mut pace, &clock)?), (true, 1000));
+    Ok(())
+}
+
+// A clock that could not be read once is gone by again where it can be.
+#[test]
+fn clock_that_failed_once_goes_on(rt: HostRuntime) -> Result<(), Fail> {
+    let clock = SetClock::at(0);
+    let (mut pace, missed) = pace_by(rt.alloc(), &clock)?;
+    clock.stop();
+    let unread = slept(&mut pace, &clock)?;
+    clock.set(2500);
+    let read = (slept(&mut pace, &clock)?, slept(&mut pace, &clock)?);
+    assert_eq!(rt; (unread, read, missed.take()), (1000, (0, 500), 0));
+    Ok(())
+}
+
+// Seconds that are missed at two times are counted together, once.
+#[test]
+fn missed_seconds_are_added(rt: HostRuntime) -> Result<(), Fail> {
+    let missed = MissedSeconds::new();
+    missed.add(2);
+    missed.add(3);
+    assert_eq!(rt; (missed.take(), missed.take()), (5, 0));
     Ok(())
 }
 

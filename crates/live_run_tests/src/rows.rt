@@ -4,8 +4,8 @@ use crate::fixtures::message::{Message, Pdu, octets_of};
 use crate::fixtures::names::{HELLO, PRIORITY};
 use crate::fixtures::policies::MASKED;
 use crate::support::{
-    FLOODED, LinesOver, MANAGER, PEER_OF_PORT_2, Shown, asking, carrying, count_of, lines_of,
-    loopback, of_edges, of_fast_hello, packets_to, policed, run,
+    FIRST_OF_FAST_HELLO, FLOODED, LinesOver, MANAGER, PEER_OF_PORT_2, Shown, asking, carrying,
+    count_of, lines_of, loopback, of_edges, of_fast_hello, packets_to, policed, run,
 };
 use history_core::Kept;
 use live_agent::OpenGate;
@@ -154,7 +154,7 @@ const CASES: &[Case<'static>] = &[
         counts: [3, 1, 0, 0],
     },
     Case {
-        what: "a Set and 4,200 Gets move the base",
+        what: "a Set and 4,200 Gets move the base, at numbers of more than 32 bits",
         world: World::FastHello,
         messages: &[SET_PRIORITY, GET_BOTH],
         again: 4199,
@@ -165,7 +165,7 @@ const CASES: &[Case<'static>] = &[
             ..SET_PRIORITY
         },
         replies: [4201, 4200],
-        counts: [4203, 4201, 4096, 4096],
+        counts: [4203, 4201, FIRST_OF_FAST_HELLO + 4096, 4096],
     },
 ];
 

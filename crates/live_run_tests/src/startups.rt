@@ -67,6 +67,26 @@ fn wire_is_closed_where_a_task_does_not_begin(rt: HostRuntime) -> Result<(), Fai
     Ok(())
 }
 
+// Whether a start has failed short of five seconds, and then, on a machine that is up for so many milliseconds.
+fn has_failed_behind(alloc: Global, up: u64) -> Result<(bool, bool), Fail> {
+    let clock = SetClock::at(up);
+    let startup = start(alloc)?;
+    startup.expect(&clock, 1);
+    clock.set(up.saturating_add(4999));
+    let within = startup.has_failed(&clock);
+    clock.set(up.saturating_add(5000));
+    Ok((within, startup.has_failed(&clock)))
+}
+
+// The time of a start is that behind it, also on a machine that has been up for weeks, or for a hundred years.
+#[test]
+fn start_has_its_time_on_a_machine_up_for_long(rt: HostRuntime) -> Result<(), Fail> {
+    let weeks = has_failed_behind(rt.alloc(), 4_294_968_296)?;
+    let years = has_failed_behind(rt.alloc(), 4_294_967_297_000)?;
+    assert_eq!(rt; (weeks, years), ((false, true), (false, true)));
+    Ok(())
+}
+
 // A wire is closed behind a receive in which the time ends, and what it received is passed over.
 #[test]
 fn wire_is_closed_behind_a_receive(rt: HostRuntime) -> Result<(), Fail> {

@@ -93,12 +93,16 @@ pub fn of_edges(alloc: Global) -> Result<Kept<Shown>, Fail> {
     history_of(alloc, all_of(alloc, bridge)?)
 }
 
-/// The history of a bridge of two ports with a hello time of one second.
+/// The number of the first entry of the history of [`of_fast_hello`]: one that does not fit 32 bits.
+pub const FIRST_OF_FAST_HELLO: u64 = 4_294_967_296;
+
+/// The history of a bridge of two ports with a hello time of one second, as of one that has gone on for long.
 pub fn of_fast_hello(alloc: Global) -> Result<Kept<Shown>, Fail> {
     let mut bridge = bridge_of(alloc, &[port(IfIndex::of(1)), port(IfIndex::of(2))])?;
     bridge.put_setting(Key::Bridge(BridgeKey::Hello), 100);
     bridge.settle();
-    history_of(alloc, all_of(alloc, bridge)?)
+    let objects = objects(alloc, Planned::new())?;
+    history_from(alloc, objects, all_of(alloc, bridge)?, FIRST_OF_FAST_HELLO)
 }
 
 /// A plan of so many rounds, over a bridge of two ports with peers.

@@ -86,3 +86,28 @@ fn intervals_of_threads_are_all_added(rt: HostRuntime) -> Result<(), Fail> {
     );
     Ok(())
 }
+
+// Whether what is read so often while others add to it goes up alone.
+fn goes_up<R: Wait>(rt: &R, book: &WorkTotals) -> bool {
+    let mut last: u64 = 0;
+    for _ in 0..TIMES {
+        let now = book.read(rt).requests;
+        if now < last {
+            return false;
+        }
+        last = now;
+    }
+    true
+}
+
+#[test]
+fn totals_that_are_read_meanwhile_go_up(rt: HostRuntime) -> Result<(), Fail> {
+    let book = WorkTotals::new();
+    let (is_rising, _) = join(
+        &rt,
+        || goes_up(&rt, &book),
+        || join(&rt, || work(&rt, &book), || work(&rt, &book)),
+    );
+    assert_eq!(rt; (is_rising, book.read(&rt).requests), (true, BY_TWO));
+    Ok(())
+}
